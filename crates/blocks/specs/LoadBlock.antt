@@ -1,0 +1,46 @@
+-- Load block: its refusals in the document's order, its answer, the words that it leaves, and the contract that says so.
+-- Assumes nothing.
+use mathlib.Core.Path.{_≡_, sym, _∙_}
+use mathlib.Core.Bool.{Bool}
+use mathlib.Core.List.{List, [], _∷_}
+use Prim.Native.Nat.{ℕ}
+use lib.IntN.{ℤ}
+use Rattle.laws.specs.First.{first, unless}
+use Rattle.version.specs.declared.Version.{Version}
+use Rattle.version.specs.Record.{badRecord}
+use Rattle.table.specs.Slots.{badTable}
+use Rattle.blocks.specs.declared.Loaded.{Loaded}
+use Rattle.blocks.specs.declared.Loaded.the-variants.{Done, Refused}
+use Rattle.blocks.specs.Words.{notBlock, checkWrong}
+use Rattle.blocks.specs.Slots.{blockSlots, noSuchBlock, slotBlockWrong, loadedTo}
+
+-- Load block: 1, 2, 7, 5, 14, 15, 16
+abbrev pub loadBlockTests : List ℤ → Version → ℕ → List ℕ → List (Bool × ℕ)
+loadBlockTests t v k block =
+    (badTable t, 1)
+    ∷ (badRecord v, 2)
+    ∷ (v .active, 7)
+    ∷ (noSuchBlock t k, 5)
+    ∷ (notBlock block, 14)
+    ∷ (checkWrong block, 15)
+    ∷ (slotBlockWrong t v k block, 16)
+    ∷ []
+
+unfoldable pub loadBlockRefusal : List ℤ → Version → ℕ → List ℕ → ℕ
+loadBlockRefusal t v k block = first (loadBlockTests t v k block)
+
+unfoldable pub loadBlockAnswer : List ℤ → Version → ℕ → List ℕ → Loaded
+loadBlockAnswer t v k block = unless (loadBlockRefusal t v k block) Refused Done
+
+-- load block writes its slots only
+unfoldable pub loadBlockWords : List ℤ → Version → ℕ → List ℕ → List ℤ
+loadBlockWords t v k block = unless (loadBlockRefusal t v k block) (λ n. t) (loadedTo t k block blockSlots)
+
+-- the contract, and that it allows one outcome
+pub record BlockLoaded (t : List ℤ) (v : Version) (k : ℕ) (block : List ℕ) (r : Loaded) (t′ : List ℤ) : Type 0 where
+  pub answer : r ≡ loadBlockAnswer t v k block
+  pub words : t′ ≡ loadBlockWords t v k block
+
+pub one-outcome : {t : List ℤ} {v : Version} {k : ℕ} {block : List ℕ} {r r′ : Loaded} {u u′ : List ℤ}
+    → BlockLoaded t v k block r u → BlockLoaded t v k block r′ u′ → (r ≡ r′) × (u ≡ u′)
+one-outcome x y = (x .answer ∙ sym (y .answer), x .words ∙ sym (y .words))

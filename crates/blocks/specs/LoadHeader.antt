@@ -1,0 +1,32 @@
+-- Load header: its refusals in the document's order, its answer, and the contract that says so. Assumes nothing.
+use mathlib.Core.Path.{_≡_, sym, _∙_}
+use mathlib.Core.Bool.{Bool}
+use mathlib.Core.List.{List, [], _∷_}
+use Prim.Native.Nat.{ℕ}
+use Rattle.laws.specs.First.{first, unless}
+use Rattle.blocks.specs.declared.Header.{Header}
+use Rattle.blocks.specs.declared.Header.the-variants.{Refused}
+use Rattle.blocks.specs.Words.{notBlock, checkWrong}
+use Rattle.blocks.specs.Headers.{headerWrong, headerOf}
+
+-- Load header: 14, 15, 16
+abbrev pub loadHeaderTests : List ℕ → List (Bool × ℕ)
+loadHeaderTests block =
+    (notBlock block, 14)
+    ∷ (checkWrong block, 15)
+    ∷ (headerWrong block, 16)
+    ∷ []
+
+unfoldable pub loadHeaderRefusal : List ℕ → ℕ
+loadHeaderRefusal block = first (loadHeaderTests block)
+
+-- load header answers slots and current
+unfoldable pub loadHeaderAnswer : List ℕ → Header
+loadHeaderAnswer block = unless (loadHeaderRefusal block) Refused (headerOf block)
+
+-- the contract, and that it allows one outcome
+pub record HeaderLoaded (block : List ℕ) (r : Header) : Type 0 where
+  pub answer : r ≡ loadHeaderAnswer block
+
+pub one-outcome : {block : List ℕ} {r r′ : Header} → HeaderLoaded block r → HeaderLoaded block r′ → r ≡ r′
+one-outcome a b = a .answer ∙ sym (b .answer)

@@ -1,0 +1,36 @@
+-- Save header: its refusals in the document's order, the block that it hands out, and the contract that says so.
+-- Assumes nothing.
+use mathlib.Core.Path.{_≡_, sym, _∙_}
+use mathlib.Core.Bool.{Bool}
+use mathlib.Core.List.{List, [], _∷_}
+use Prim.Native.Nat.{ℕ}
+use lib.IntN.{ℤ}
+use Rattle.laws.specs.First.{first, unless}
+use Rattle.version.specs.declared.Version.{Version}
+use Rattle.version.specs.Record.{badRecord}
+use Rattle.table.specs.Slots.{badTable}
+use Rattle.blocks.specs.declared.Saved.{Saved}
+use Rattle.blocks.specs.Words.{blockOf, zeroBlock}
+use Rattle.blocks.specs.Headers.{headerWords}
+
+-- Save header: 1, 2, 7
+abbrev pub saveHeaderTests : List ℤ → Version → List (Bool × ℕ)
+saveHeaderTests t v =
+    (badTable t, 1)
+    ∷ (badRecord v, 2)
+    ∷ (v .active, 7)
+    ∷ []
+
+unfoldable pub saveHeaderRefusal : List ℤ → Version → ℕ
+saveHeaderRefusal t v = first (saveHeaderTests t v)
+
+unfoldable pub saveHeaderBlock : List ℤ → Version → List ℕ
+saveHeaderBlock t v = unless (saveHeaderRefusal t v) (λ n. zeroBlock) (blockOf (headerWords t v))
+
+-- the contract, and that it allows one outcome
+pub record HeaderSaved (t : List ℤ) (v : Version) (r : Saved) : Type 0 where
+  pub refusal : r .refusal ≡ saveHeaderRefusal t v
+  pub block : r .block ≡ saveHeaderBlock t v
+
+pub one-outcome : {t : List ℤ} {v : Version} {r r′ : Saved} → HeaderSaved t v r → HeaderSaved t v r′ → (r .refusal ≡ r′ .refusal) × (r .block ≡ r′ .block)
+one-outcome a b = (a .refusal ∙ sym (b .refusal), a .block ∙ sym (b .block))

@@ -1,0 +1,1 @@
+// No code: every call as a value, and what it does.

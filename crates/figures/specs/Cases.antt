@@ -1,0 +1,229 @@
+-- The cases of document 01's 'Figures to meet' that are marked P, each as a state, the calls, the numbers expected of each call,
+-- and the words and the record expected after; those that the document does not have say that they are ours. Keys: San Jose
+-- golf 1, Berkeley racquetball 2, Novato rollerblades 3; second key is the date, total two is 0. Assumes nothing.
+use mathlib.Core.Bool.{true, false}
+use mathlib.Core.List.{List, [], _∷_, _++_}
+use Prim.Native.Nat.{ℕ}
+use lib.IntN.{ℤ, pos, negsuc}
+use Rattle.version.specs.declared.Version.{Version}
+use Rattle.table.specs.Slots.{freshTable}
+use Rattle.calls.specs.Calls.{Call, begin, commit, readSlot, readKey, rollUp, insert, update, delete}
+
+pub record Case : Type 0 where
+  pub words : List ℤ
+  pub version : Version
+  pub calls : List Call
+  pub numbers : List (List ℤ)
+  pub words-after : List ℤ
+  pub version-after : Version
+
+-- ---- how a case is written
+-- a slot: run number, operation, key one, key two, current total one, old total one
+abbrev pub slot : ℕ → ℕ → ℕ → ℕ → ℕ → ℕ → List ℤ
+slot run operation one two current old =
+    pos run ∷ pos operation ∷ pos one ∷ pos two ∷ pos current ∷ pos 0 ∷ pos old ∷ pos 0 ∷ []
+
+abbrev pub zeros : List ℤ
+zeros = freshTable 1
+
+abbrev pub idleAt : ℕ → Version
+idleAt n = record { current = pos n; active = false }
+
+abbrev pub runningAt : ℕ → Version
+runningAt n = record { current = pos n; active = true }
+
+-- the numbers of an answer: a version, a slot number, a row, no row, the sums of a roll-up, and a refusal of each kind
+abbrev pub version : ℕ → List ℤ
+version n = pos 0 ∷ pos n ∷ []
+
+abbrev pub at : ℕ → List ℤ
+at k = pos 0 ∷ pos k ∷ []
+
+abbrev pub row : ℕ → ℕ → ℕ → List ℤ
+row one two total = pos 0 ∷ pos 1 ∷ pos one ∷ pos two ∷ pos total ∷ pos 0 ∷ []
+
+abbrev pub none : List ℤ
+none = pos 0 ∷ pos 0 ∷ pos 0 ∷ pos 0 ∷ pos 0 ∷ pos 0 ∷ []
+
+abbrev pub sums : ℕ → ℕ → List ℤ
+sums count total = pos 0 ∷ pos count ∷ pos total ∷ pos 0 ∷ []
+
+abbrev pub readRefused : ℕ → List ℤ
+readRefused n = pos n ∷ pos 0 ∷ pos 0 ∷ pos 0 ∷ pos 0 ∷ pos 0 ∷ []
+
+abbrev pub rollUpRefused : ℕ → List ℤ
+rollUpRefused n = pos n ∷ pos 0 ∷ pos 0 ∷ pos 0 ∷ []
+
+abbrev pub changeRefused : ℕ → List ℤ
+changeRefused n = pos n ∷ pos 0 ∷ []
+
+-- ---- the source's Figure 4 in slots 0 to 3, slot 4 empty
+abbrev pub figure4 : List ℤ
+figure4 =
+    slot 3 1 1 19961014 10000 0
+    ++ slot 4 1 1 19961015 1500 0
+    ++ slot 4 2 2 19961014 12000 10000
+    ++ slot 4 3 3 19961013 8000 8000
+    ++ zeros
+
+-- a read of Figure 4 that changes nothing, at current 4 with no run
+abbrev pub figure4Read : List Call → List (List ℤ) → Case
+figure4Read calls numbers =
+    record { words = figure4; version = idleAt 4; calls = calls; numbers = numbers; words-after = figure4; version-after = idleAt 4 }
+
+-- session 3: 10,000; none; 10,000; 8,000
+abbrev pub session3 : Case
+session3 =
+    figure4Read
+    (readSlot (pos 3) 0 ∷ readSlot (pos 3) 1 ∷ readSlot (pos 3) 2 ∷ readSlot (pos 3) 3
+    ∷ readKey (pos 3) (pos 1) (pos 19961014) ∷ readKey (pos 3) (pos 1) (pos 19961015) ∷ readKey (pos 3) (pos 2) (pos 19961014) ∷ readKey (pos 3) (pos 3) (pos 19961013) ∷ [])
+    (row 1 19961014 10000 ∷ none ∷ row 2 19961014 10000 ∷ row 3 19961013 8000
+    ∷ row 1 19961014 10000 ∷ none ∷ row 2 19961014 10000 ∷ row 3 19961013 8000 ∷ [])
+
+-- session 4: 10,000; 1,500; 12,000; none
+abbrev pub session4 : Case
+session4 =
+    figure4Read
+    (readSlot (pos 4) 0 ∷ readSlot (pos 4) 1 ∷ readSlot (pos 4) 2 ∷ readSlot (pos 4) 3
+    ∷ readKey (pos 4) (pos 1) (pos 19961014) ∷ readKey (pos 4) (pos 1) (pos 19961015) ∷ readKey (pos 4) (pos 2) (pos 19961014) ∷ readKey (pos 4) (pos 3) (pos 19961013) ∷ [])
+    (row 1 19961014 10000 ∷ row 1 19961015 1500 ∷ row 2 19961014 12000 ∷ none
+    ∷ row 1 19961014 10000 ∷ row 1 19961015 1500 ∷ row 2 19961014 12000 ∷ none ∷ [])
+
+-- session 2 refused 4; session 5 refused 3
+abbrev pub sessions2and5 : Case
+sessions2and5 =
+    figure4Read
+    (readSlot (pos 2) 0 ∷ readKey (pos 2) (pos 1) (pos 19961014) ∷ rollUp (pos 2) (pos 1)
+    ∷ readSlot (pos 5) 0 ∷ readKey (pos 5) (pos 1) (pos 19961014) ∷ rollUp (pos 5) (pos 1) ∷ [])
+    (readRefused 4 ∷ readRefused 4 ∷ rollUpRefused 4 ∷ readRefused 3 ∷ readRefused 3 ∷ rollUpRefused 3 ∷ [])
+
+-- ours: San Jose's roll-up at both sessions, an absent key, and a slot past the last
+abbrev pub rollUps : Case
+rollUps =
+    figure4Read
+    (rollUp (pos 3) (pos 1) ∷ rollUp (pos 4) (pos 1) ∷ rollUp (pos 4) (pos 3) ∷ readKey (pos 4) (pos 4) (pos 19961014) ∷ readSlot (pos 4) 4 ∷ readSlot (pos 4) 5 ∷ [])
+    (sums 1 10000 ∷ sums 2 11500 ∷ sums 0 0 ∷ none ∷ none ∷ readRefused 5 ∷ [])
+
+-- after begin, session 3 refused 4
+abbrev pub afterBegin : Case
+afterBegin = record {
+  words = figure4;
+  version = idleAt 4;
+  calls = begin ∷ readSlot (pos 3) 0 ∷ readKey (pos 3) (pos 1) (pos 19961014) ∷ rollUp (pos 3) (pos 1) ∷ readSlot (pos 4) 0 ∷ [];
+  numbers = version 5 ∷ readRefused 4 ∷ readRefused 4 ∷ rollUpRefused 4 ∷ row 1 19961014 10000 ∷ [];
+  words-after = figure4;
+  version-after = runningAt 4;
+}
+
+-- Figure 5's changes in its order, run 5, give: slot 0 update 10,200 old 10,000; slot 1 untouched; slot 2 delete 12,000 old
+-- 12,000; slot 3 insert (1, 19961016) 11,000; slot 4 insert (3, 19961013) 6,000
+abbrev pub figure5 : Case
+figure5 = record {
+  words = figure4;
+  version = idleAt 4;
+  calls = begin
+      ∷ insert (pos 1) (pos 19961016) (pos 11000) (pos 0)
+      ∷ insert (pos 3) (pos 19961013) (pos 6000) (pos 0)
+      ∷ update (pos 1) (pos 19961014) (pos 10200) (pos 0)
+      ∷ delete (pos 2) (pos 19961014)
+      ∷ [];
+  numbers = version 5 ∷ at 3 ∷ at 4 ∷ at 0 ∷ at 2 ∷ [];
+  words-after = slot 5 2 1 19961014 10200 10000
+      ++ slot 4 1 1 19961015 1500 0
+      ++ slot 5 3 2 19961014 12000 12000
+      ++ slot 5 1 1 19961016 11000 0
+      ++ slot 5 1 3 19961013 6000 0;
+  version-after = runningAt 4;
+}
+
+-- insert then update in one run stays insert
+abbrev pub insertThenUpdate : Case
+insertThenUpdate = record {
+  words = zeros;
+  version = idleAt 1;
+  calls = begin ∷ insert (pos 1) (pos 19961014) (pos 10000) (pos 0) ∷ update (pos 1) (pos 19961014) (pos 10200) (pos 0)
+      ∷ readKey (pos 1) (pos 1) (pos 19961014) ∷ [];
+  numbers = version 2 ∷ at 0 ∷ at 0 ∷ none ∷ [];
+  words-after = slot 2 1 1 19961014 10200 0;
+  version-after = runningAt 1;
+}
+
+-- delete then insert in one run is update
+abbrev pub deleteThenInsert : Case
+deleteThenInsert = record {
+  words = slot 2 1 1 19961014 10000 0;
+  version = idleAt 2;
+  calls = begin ∷ delete (pos 1) (pos 19961014) ∷ insert (pos 1) (pos 19961014) (pos 7000) (pos 0)
+      ∷ readKey (pos 2) (pos 1) (pos 19961014) ∷ [];
+  numbers = version 3 ∷ at 0 ∷ at 0 ∷ row 1 19961014 10000 ∷ [];
+  words-after = slot 3 2 1 19961014 7000 10000;
+  version-after = runningAt 2;
+}
+
+-- insert then delete of a new key leaves zeros
+abbrev pub insertThenDelete : Case
+insertThenDelete = record {
+  words = zeros;
+  version = idleAt 1;
+  calls = begin ∷ insert (pos 1) (pos 19961014) (pos 10000) (pos 0) ∷ delete (pos 1) (pos 19961014) ∷ [];
+  numbers = version 2 ∷ at 0 ∷ at 0 ∷ [];
+  words-after = zeros;
+  version-after = runningAt 1;
+}
+
+-- one slot, its key live at the last commit and deleted by this run: insert of another key is refused 12; in the next run it
+-- is accepted
+abbrev pub oneSlot : Case
+oneSlot = record {
+  words = slot 2 1 1 19961014 10000 0;
+  version = idleAt 2;
+  calls = begin ∷ delete (pos 1) (pos 19961014) ∷ insert (pos 2) (pos 19961014) (pos 500) (pos 0)
+      ∷ commit ∷ begin ∷ insert (pos 2) (pos 19961014) (pos 500) (pos 0) ∷ [];
+  numbers = version 3 ∷ at 0 ∷ changeRefused 12 ∷ version 3 ∷ version 4 ∷ at 0 ∷ [];
+  words-after = slot 4 1 2 19961014 500 0;
+  version-after = runningAt 3;
+}
+
+-- a total of 10^15 is accepted, 10^15 + 1 refused 13; and, ours, so at the other end, and of total two
+abbrev pub totals : Case
+totals = record {
+  words = zeros;
+  version = runningAt 1;
+  calls = insert (pos 1) (pos 19961014) (pos 1000000000000000) (pos 0)
+      ∷ update (pos 1) (pos 19961014) (pos 1000000000000001) (pos 0)
+      ∷ update (pos 1) (pos 19961014) (negsuc 999999999999999) (pos 1000000000000000)
+      ∷ update (pos 1) (pos 19961014) (negsuc 1000000000000000) (pos 0)
+      ∷ update (pos 1) (pos 19961014) (pos 0) (pos 1000000000000001)
+      ∷ [];
+  numbers = at 0 ∷ changeRefused 13 ∷ at 0 ∷ changeRefused 13 ∷ changeRefused 13 ∷ [];
+  words-after = pos 2 ∷ pos 1 ∷ pos 1 ∷ pos 19961014 ∷ negsuc 999999999999999 ∷ pos 1000000000000000 ∷ pos 0 ∷ pos 0 ∷ [];
+  version-after = runningAt 1;
+}
+
+-- ours, the incident: a run corrects one row twice; an open session reads the totals from before the run
+abbrev pub correctedTwice : Case
+correctedTwice = record {
+  words = slot 2 1 1 19961014 10000 0;
+  version = idleAt 2;
+  calls = begin ∷ update (pos 1) (pos 19961014) (pos 10200) (pos 0) ∷ update (pos 1) (pos 19961014) (pos 10300) (pos 0)
+      ∷ readKey (pos 2) (pos 1) (pos 19961014) ∷ rollUp (pos 2) (pos 1) ∷ commit ∷ readKey (pos 3) (pos 1) (pos 19961014) ∷ [];
+  numbers = version 3 ∷ at 0 ∷ at 0 ∷ row 1 19961014 10000 ∷ sums 1 10000 ∷ version 3 ∷ row 1 19961014 10300 ∷ [];
+  words-after = slot 3 2 1 19961014 10300 10000;
+  version-after = idleAt 3;
+}
+
+abbrev pub cases : List Case
+cases =
+    session3
+    ∷ session4
+    ∷ sessions2and5
+    ∷ rollUps
+    ∷ afterBegin
+    ∷ figure5
+    ∷ insertThenUpdate
+    ∷ deleteThenInsert
+    ∷ insertThenDelete
+    ∷ oneSlot
+    ∷ totals
+    ∷ correctedTwice
+    ∷ []

@@ -1,0 +1,55 @@
+-- The figures hold: performing the calls of every case gives the numbers, the words and the record that it expects. One
+-- statement over the one table of cases, which the checker computes. This crate, and no other outside the one that owns it,
+-- unfolds a shut definition. Assumes nothing.
+use mathlib.Core.Path.{_≡_, refl}
+use mathlib.Core.List.{List, [], _∷_, map}
+use lib.IntN.{ℤ}
+use Rattle.laws.specs.Tests.{all, any}
+use Rattle.laws.specs.First.{first}
+use Rattle.laws.specs.Lowest.{lowest, some}
+use Rattle.version.specs.declared.Version.{Version}
+use Rattle.version.specs.Record.{badRecord}
+use Rattle.version.specs.Sessions.{unborn, expired}
+use Rattle.version.specs.Runs.{beginRefusal, beginAnswer, beginRecord, commitRefusal, commitAnswer, commitRecord}
+use Rattle.table.specs.Slots.{badTable, slotAt, putSlot}
+use Rattle.table.specs.Operations.{column, live}
+use Rattle.table.specs.Totals.{lawful, unlawful}
+use Rattle.table.specs.Formed.{allZeros, totalsLawful, usedWell, wellFormed, anyBroken}
+use Rattle.table.specs.Keys.{hasKey, keySlot}
+use Rattle.table.specs.Free.{longDeleted, free, freeSlot}
+use Rattle.reads.specs.Table1.{shown}
+use Rattle.reads.specs.ReadSlot.{readSlotRefusal, readSlotAnswer}
+use Rattle.reads.specs.ReadKey.{readKeyRefusal, readKeyAnswer}
+use Rattle.reads.specs.RollUp.{rollUpRefusal, rollUpAnswer}
+use Rattle.changes.specs.Tables.{changed}
+use Rattle.changes.specs.Insert.{insertRefusal, insertAnswer, insertWords}
+use Rattle.changes.specs.Update.{updateRefusal, updateAnswer, updateWords}
+use Rattle.changes.specs.Delete.{deleteRefusal, deleteAnswer, deleteWords}
+use Rattle.calls.specs.Calls.{Call}
+use Rattle.calls.specs.Numbers.{numbers}
+use Rattle.calls.specs.Perform.{State, perform}
+use Rattle.figures.specs.Cases.{Case, cases}
+
+-- what a case comes to: the numbers of its calls, and the words and the record after
+pub record Outcome : Type 0 where
+  pub numbers : List (List ℤ)
+  pub words : List ℤ
+  pub version : Version
+
+abbrev pub expected : Case → Outcome
+expected c = record { numbers = c .numbers; words = c .words-after; version = c .version-after }
+
+-- the calls, one after the other
+abbrev pub perform-all : List Call → State → Outcome
+perform-all [] st = record { numbers = []; words = st .words; version = st .version }
+perform-all (call ∷ calls) st =
+    let d = perform call st in
+    let o = perform-all calls (d .state) in
+    record { numbers = numbers (d .answer) ∷ o .numbers; words = o .words; version = o .version }
+
+abbrev pub outcome : Case → Outcome
+outcome c = perform-all (c .calls) (record { words = c .words; version = c .version; block = [] })
+
+pub figures : map outcome cases ≡ map expected cases
+unfolding all any first lowest some badRecord unborn expired beginRefusal beginAnswer beginRecord commitRefusal commitAnswer commitRecord badTable slotAt putSlot column live lawful unlawful allZeros totalsLawful usedWell wellFormed anyBroken hasKey keySlot longDeleted free freeSlot shown readSlotRefusal readSlotAnswer readKeyRefusal readKeyAnswer rollUpRefusal rollUpAnswer changed insertRefusal insertAnswer insertWords updateRefusal updateAnswer updateWords deleteRefusal deleteAnswer deleteWords
+figures = refl

@@ -1,0 +1,10 @@
+pub mod Tests
+pub mod First
+pub mod Lowest
+pub mod Order
+pub mod Bits
+pub mod Sums
+pub mod Stores
+pub mod Cells
+pub mod Repeats
+pub mod Digits

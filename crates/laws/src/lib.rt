@@ -1,0 +1,1 @@
+// No code: the theorems of specs/, which every other crate cites.

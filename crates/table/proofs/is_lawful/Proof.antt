@@ -1,0 +1,13 @@
+-- `table::is_lawful` meets its contract. Assumes nothing.
+use Rattle.laws.specs.Tests.{all}
+use Rattle.laws.specs.Bits.{plain}
+use Rattle.table.specs.Totals.{lawful}
+use Rattle.table.proofs.is_lawful.Statement.{statement}
+use Rattle.table.proofs.is_lawful.Tie as tie
+
+returns : tie.Need-returns
+unfolding lawful all
+returns c = simp (plain _ (c .fits .total))
+
+pub is-lawful-spec : {M : Type 1} → statement M
+is-lawful-spec = tie.close (tie.spec returns)

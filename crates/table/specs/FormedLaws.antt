@@ -1,0 +1,71 @@
+-- The laws of well formed slots: one is empty, or used as `Used` says, and nothing else is well formed. Assumes nothing.
+use mathlib.Core.Path.{_≡_, refl}
+use mathlib.Core.Bool.{true, false, not, _||_, or-true}
+use mathlib.Core.List.{List}
+use Prim.Native.Nat.{ℕ, _<_}
+use lib.IntN.{ℤ, pos}
+use Rattle.laws.specs.Tests.{all, all-at, by-test, clash, not-no}
+use Rattle.laws.specs.Order.{eqZ, eqZ-true, fromTo}
+use Rattle.laws.specs.Lowest.{none-passes}
+use Rattle.version.specs.declared.Version.{Version}
+use Rattle.version.specs.Record.{lastRun}
+use Rattle.table.specs.declared.Slot.{Slot}
+use Rattle.table.specs.Slots.{empty, slots, slotAt}
+use Rattle.table.specs.SlotLaws.{slot-path}
+use Rattle.table.specs.Operations.{insertOperation, deleteOperation, live}
+use Rattle.table.specs.OperationLaws.{dead-empty}
+use Rattle.table.specs.Totals.{lawful}
+use Rattle.table.specs.Formed.{allZeros, totalsLawful, oldZero, usedWell, wellFormed, broken, anyBroken}
+
+-- ---- what a used slot is
+pub record Used (x : Slot) (v : Version) : Type 0 where
+  pub operation : fromTo insertOperation deleteOperation (x .operation) ≡ true
+  pub run : fromTo (pos 1) (lastRun v) (x .run) ≡ true
+  pub current1 : lawful (x .current1) ≡ true
+  pub current2 : lawful (x .current2) ≡ true
+  pub old1 : lawful (x .old1) ≡ true
+  pub old2 : lawful (x .old2) ≡ true
+  pub old-of-insert : (not (eqZ (x .operation) insertOperation) || oldZero x) ≡ true
+
+-- ---- an empty slot is well formed, and a used one is
+pub empty-formed : (v : Version) → wellFormed empty v ≡ true
+unfolding wellFormed allZeros all
+empty-formed v = refl
+
+pub used-formed : {x : Slot} {v : Version} → Used x v → wellFormed x v ≡ true
+unfolding wellFormed usedWell totalsLawful all
+used-formed {x} {v} u = simp (u .operation, u .run, u .current1, u .current2, u .old1, u .old2, u .old-of-insert, or-true)
+
+-- ---- and nothing else is
+pub zeros-empty : (x : Slot) → allZeros x ≡ true → x ≡ empty
+unfolding allZeros
+zeros-empty x z =
+    slot-path (eqZ-true _ _ (all-at _ 0 z)) (eqZ-true _ _ (all-at _ 1 z)) (eqZ-true _ _ (all-at _ 2 z)) (eqZ-true _ _ (all-at _ 3 z))
+    (eqZ-true _ _ (all-at _ 4 z)) (eqZ-true _ _ (all-at _ 5 z)) (eqZ-true _ _ (all-at _ 6 z)) (eqZ-true _ _ (all-at _ 7 z))
+
+well-used : {x : Slot} {v : Version} → usedWell x v ≡ true → Used x v
+unfolding usedWell totalsLawful
+well-used u =
+    let t = all-at _ 2 u in
+    record {
+      operation = all-at _ 0 u;
+      run = all-at _ 1 u;
+      current1 = all-at _ 0 t;
+      current2 = all-at _ 1 t;
+      old1 = all-at _ 2 t;
+      old2 = all-at _ 3 t;
+      old-of-insert = all-at _ 3 u;
+    }
+
+pub formed-cases : (x : Slot) (v : Version) → wellFormed x v ≡ true → {P : Type 0} → (x ≡ empty → P) → (Used x v → P) → P
+unfolding wellFormed
+formed-cases x v w f g = by-test (allZeros x) (λ z. f (zeros-empty x z)) (λ n. g (well-used (rw n at w)))
+
+-- ---- a live slot that is well formed is used
+pub live-used : (x : Slot) (v : Version) → live x ≡ true → wellFormed x v ≡ true → Used x v
+live-used x v l w = formed-cases x v w (λ e. clash l (rw e dead-empty)) (λ u. u)
+
+-- ---- where no slot is broken, each is well formed
+pub none-broken : (t : List ℤ) (v : Version) → anyBroken t v ≡ false → (k : ℕ) → k < slots t → wellFormed (slotAt t k) v ≡ true
+unfolding anyBroken
+none-broken t v h k l = not-no (none-passes (λ j. broken (slotAt t j) v) (slots t) h k l)

@@ -1,0 +1,34 @@
+-- The laws of free slots: the lowest is taken, and a free slot is empty, or was deleted by an older run. Assumes nothing.
+use mathlib.Core.Path.{_≡_}
+use mathlib.Core.Bool.{true}
+use mathlib.Core.List.{List}
+use lib.IntN.{ℤ}
+use lib.Signed.{ltZ}
+use Rattle.laws.specs.Tests.{all-at, by-test}
+use Rattle.laws.specs.Order.{eqZ-true}
+use Rattle.laws.specs.Lowest.{Lowest, lowest-is}
+use Rattle.version.specs.declared.Version.{Version}
+use Rattle.version.specs.Record.{runNumber}
+use Rattle.table.specs.declared.Slot.{Slot}
+use Rattle.table.specs.Slots.{empty, slots, slotAt}
+use Rattle.table.specs.Operations.{deleteOperation}
+use Rattle.table.specs.Formed.{allZeros, wellFormed}
+use Rattle.table.specs.FormedLaws.{zeros-empty}
+use Rattle.table.specs.Free.{longDeleted, free, freeSlot}
+
+pub freeSlot-is : (t : List ℤ) (v : Version) → Lowest (λ k. free (slotAt t k) v) (slots t) (freeSlot t v)
+unfolding freeSlot
+freeSlot-is t v = lowest-is _ _
+
+-- a free slot is empty, or was deleted by an older run
+pub record LongDeleted (x : Slot) (v : Version) : Type 0 where
+  pub operation : x .operation ≡ deleteOperation
+  pub older : ltZ (x .run) (runNumber v) ≡ true
+  pub formed : wellFormed x v ≡ true
+
+pub free-cases : (x : Slot) (v : Version) → free x v ≡ true → {P : Type 0} → (x ≡ empty → P) → (LongDeleted x v → P) → P
+unfolding free longDeleted
+free-cases x v h f g =
+    by-test (allZeros x) (λ z. f (zeros-empty x z))
+    (λ n. let d = rw n at h in
+    g (record { operation = eqZ-true _ _ (all-at _ 0 d); older = all-at _ 1 d; formed = all-at _ 2 d }))

@@ -1,0 +1,46 @@
+-- The laws of a key's slot: it is the lowest that has the key; an absent key shows the empty slot; a live key has a slot.
+-- Assumes nothing.
+use mathlib.Core.Path.{_≡_}
+use mathlib.Core.Bool.{true, false}
+use mathlib.Core.List.{List}
+use Prim.Native.Nat.{_≤_, _<_}
+use lib.Dec.{ltb}
+use borrow.Author.Tests.{ltb-true, ltb-false}
+use lib.IntN.{ℤ}
+use Rattle.laws.specs.Tests.{all-at, by-test, clash, not-yes}
+use Rattle.laws.specs.Order.{eqZ, eqZ-true}
+use Rattle.laws.specs.Lowest.{Lowest, lowest-is}
+use Rattle.table.specs.declared.Slot.{Slot}
+use Rattle.table.specs.Slots.{badTable, slots, slotAt, empty}
+use Rattle.table.specs.SlotLaws.{slotAt-past}
+use Rattle.table.specs.Operations.{emptyOperation}
+use Rattle.table.specs.OperationLaws.{dead-empty}
+use Rattle.table.specs.Keys.{hasKey, keySlot, keyed, keyLive}
+
+pub keySlot-is : (t : List ℤ) (one two : ℤ) → Lowest (λ k. hasKey (slotAt t k) one two) (slots t) (keySlot t one two)
+unfolding keySlot
+keySlot-is t one two = lowest-is _ _
+
+-- a slot that has a key: its operation and its two key words
+pub record Keyed (x : Slot) (one two : ℤ) : Type 0 where
+  pub used : eqZ (x .operation) emptyOperation ≡ false
+  pub key1 : x .key1 ≡ one
+  pub key2 : x .key2 ≡ two
+
+pub has-key : (x : Slot) (one two : ℤ) → hasKey x one two ≡ true → Keyed x one two
+unfolding hasKey
+has-key x one two h =
+    record { used = not-yes (all-at _ 0 h); key1 = eqZ-true _ _ (all-at _ 1 h); key2 = eqZ-true _ _ (all-at _ 2 h) }
+
+-- a key without a slot shows the empty one
+pub absent-empty : (t : List ℤ) (one two : ℤ) → badTable t ≡ false → slots t ≤ keySlot t one two → keyed t one two ≡ empty
+absent-empty t one two b l = slotAt-past t (keySlot t one two) b l
+
+-- a live key has a slot, and its slot has the key
+pub live-placed : (t : List ℤ) (one two : ℤ) → badTable t ≡ false → keyLive t one two ≡ true → keySlot t one two < slots t
+live-placed t one two b l =
+    by-test (ltb (keySlot t one two) (slots t)) (ltb-true _ _)
+    (λ n. clash l (rw (absent-empty t one two b (ltb-false _ _ n)) dead-empty))
+
+pub live-keyed : (t : List ℤ) (one two : ℤ) → badTable t ≡ false → keyLive t one two ≡ true → Keyed (keyed t one two) one two
+live-keyed t one two b l = has-key _ one two (keySlot-is t one two .passes (live-placed t one two b l))

@@ -1,0 +1,13 @@
+pub mod Slots
+pub mod SlotLaws
+pub mod Operations
+pub mod OperationLaws
+pub mod Totals
+pub mod TotalLaws
+pub mod Formed
+pub mod FormedLaws
+pub mod Keys
+pub mod KeyLaws
+pub mod Free
+pub mod FreeLaws
+pub mod Fits

@@ -1,0 +1,60 @@
+-- The table as slots: how many there are, refusal 1, the slot at a place, a slot put at a place, and the laws of the two.
+-- Above this module nobody speaks of words. Only this crate unfolds `badTable`, `slotAt` and `putSlot`. Assumes nothing.
+use mathlib.Core.Bool.{Bool, not}
+use mathlib.Core.List.{List, [], _∷_}
+use Prim.Native.Nat.{ℕ, _+_, _*_, _/_, _%_}
+use lib.Dec.{ltb, eqb}
+use lib.IntN.{ℤ, pos}
+use lib.ListN.{length, getD, replicate}
+use lib.Seq.{sets}
+use Rattle.laws.specs.Tests.{any}
+use Rattle.table.specs.declared.Slot.{Slot}
+
+-- eight words to a slot
+abbrev pub slotWords : ℕ
+slotWords = 8
+
+-- the number of slots
+abbrev pub slots : List ℤ → ℕ
+slots t = length t / slotWords
+
+-- 1: table length is 0, not a multiple of 8, or above 8,192 words
+unfoldable pub badTable : List ℤ → Bool
+badTable t =
+    any (eqb (length t) 0
+    ∷ not (eqb (length t % slotWords) 0)
+    ∷ ltb 8192 (length t)
+    ∷ [])
+
+-- a fresh table is all zeros
+abbrev pub freshTable : ℕ → List ℤ
+freshTable n = replicate (n * slotWords) (pos 0)
+
+-- the words of a slot: run number, operation, key one, key two, current total one and two, old total one and two
+abbrev pub wordsOf : Slot → List ℤ
+wordsOf x = x .run ∷ x .operation ∷ x .key1 ∷ x .key2 ∷ x .current1 ∷ x .current2 ∷ x .old1 ∷ x .old2 ∷ []
+
+-- all zeros
+abbrev pub empty : Slot
+empty = record { run = pos 0; operation = pos 0; key1 = pos 0; key2 = pos 0; current1 = pos 0; current2 = pos 0; old1 = pos 0; old2 = pos 0 }
+
+-- the word at a place, 0 past the end
+abbrev pub word : List ℤ → ℕ → ℤ
+word t i = getD t i (pos 0)
+
+-- the slot at a place, empty past the end
+unfoldable pub slotAt : List ℤ → ℕ → Slot
+slotAt t k = record {
+  run = word t (k * slotWords);
+  operation = word t (k * slotWords + 1);
+  key1 = word t (k * slotWords + 2);
+  key2 = word t (k * slotWords + 3);
+  current1 = word t (k * slotWords + 4);
+  current2 = word t (k * slotWords + 5);
+  old1 = word t (k * slotWords + 6);
+  old2 = word t (k * slotWords + 7);
+}
+
+-- a table with another slot at a place
+unfoldable pub putSlot : List ℤ → ℕ → Slot → List ℤ
+putSlot t k x = sets t (k * slotWords) (wordsOf x)

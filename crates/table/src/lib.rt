@@ -1,0 +1,190 @@
+// The table's words as slots. `slot_at` and `put_slot` are the two functions that touch words; a decision is a function on a
+// slot. All here are leaves for our other crates: below tests 1 and 2 they require a table and a record that pass them.
+ghost use mathlib.Core.Path.{_≡_};
+ghost use mathlib.Core.Bool.{false};
+ghost use Prim.Native.Nat.{_<_};
+ghost use Rattle.version.specs.Record.{badRecord};
+ghost use Rattle.table.specs.Slots.{badTable, slots, slotAt, putSlot};
+ghost use Rattle.table.specs.Operations.{column, live};
+ghost use Rattle.table.specs.Totals.{lawful, unlawful};
+ghost use Rattle.table.specs.Formed.{allZeros, totalsLawful, usedWell, wellFormed};
+use version::Version;
+
+// Eight words to a slot, and at most 1,024 slots.
+pub const SLOT_WORDS: usize = 8;
+
+pub const MOST_WORDS: usize = 8192;
+
+// The operation word.
+pub const INSERT: i64 = 1;
+
+pub const UPDATE: i64 = 2;
+
+pub const DELETE: i64 = 3;
+
+// The range of a total.
+pub const LOWEST_TOTAL: i64 = -1_000_000_000_000_000;
+
+pub const HIGHEST_TOTAL: i64 = 1_000_000_000_000_000;
+
+pub struct Slot {
+    pub run: i64,
+    pub operation: i64,
+    pub key1: i64,
+    pub key2: i64,
+    pub current1: i64,
+    pub current2: i64,
+    pub old1: i64,
+    pub old2: i64,
+}
+
+// Refusal 1.
+pub fn bad_table(table: &[i64]) -> bool
+    ensures { λ r. ⌜ r ≡ badTable (now (table .entry)) ⌝ }
+{
+    let words = table.len();
+    (words == 0) | (words % SLOT_WORDS != 0) | (words > MOST_WORDS)
+}
+
+// The slot at a place, empty past the end.
+pub fn slot_at(table: &[i64], k: usize) -> Slot
+    requires { ⌜ badTable (now table) ≡ false ⌝ }
+    ensures { λ r. ⌜ r ≡ slotAt (now (table .entry)) k ⌝ }
+{
+    if k >= table.len() / SLOT_WORDS {
+        return Slot {
+            run: 0,
+            operation: 0,
+            key1: 0,
+            key2: 0,
+            current1: 0,
+            current2: 0,
+            old1: 0,
+            old2: 0,
+        };
+    }
+    let at = k * SLOT_WORDS;
+    Slot {
+        run: table[at],
+        operation: table[at + 1],
+        key1: table[at + 2],
+        key2: table[at + 3],
+        current1: table[at + 4],
+        current2: table[at + 5],
+        old1: table[at + 6],
+        old2: table[at + 7],
+    }
+}
+
+// The slot written at a place.
+pub fn put_slot(table: &mut [i64], k: usize, x: Slot)
+    requires { ⌜ badTable (now table) ≡ false ⌝ }
+    requires { ⌜ k < slots (now table) ⌝ }
+    ensures { λ r. ⌜ now (table .exit) ≡ putSlot (now (table .entry)) k x ⌝ }
+{
+    let at = k * SLOT_WORDS;
+    let run = x.run;
+    let operation = x.operation;
+    let key1 = x.key1;
+    let key2 = x.key2;
+    let current1 = x.current1;
+    let current2 = x.current2;
+    let old1 = x.old1;
+    let old2 = x.old2;
+    table[at] = run;
+    table[at + 1] = operation;
+    table[at + 2] = key1;
+    table[at + 3] = key2;
+    table[at + 4] = current1;
+    table[at + 5] = current2;
+    table[at + 6] = old1;
+    table[at + 7] = old2;
+}
+
+// A total that may be given and stored.
+pub fn is_lawful(total: i64) -> bool
+    ensures { λ r. ⌜ r ≡ lawful total ⌝ }
+{
+    (LOWEST_TOTAL <= total) & (total <= HIGHEST_TOTAL)
+}
+
+// Refusal 13.
+pub fn is_unlawful(first: i64, second: i64) -> bool
+    ensures { λ r. ⌜ r ≡ unlawful first second ⌝ }
+{
+    !(is_lawful(first) & is_lawful(second))
+}
+
+// The slot's column in the decision tables.
+pub fn column_of(x: Slot) -> usize
+    ensures { λ r. ⌜ r ≡ column x ⌝ }
+{
+    let operation = x.operation;
+    if operation == INSERT {
+        return 1;
+    }
+    if operation == UPDATE {
+        return 2;
+    }
+    if operation == DELETE {
+        return 3;
+    }
+    0
+}
+
+pub fn is_live(x: Slot) -> bool
+    ensures { λ r. ⌜ r ≡ live x ⌝ }
+{
+    let operation = x.operation;
+    (operation == INSERT) | (operation == UPDATE)
+}
+
+pub fn all_zeros(x: Slot) -> bool
+    ensures { λ r. ⌜ r ≡ allZeros x ⌝ }
+{
+    let run = x.run;
+    let operation = x.operation;
+    let key1 = x.key1;
+    let key2 = x.key2;
+    let current1 = x.current1;
+    let current2 = x.current2;
+    let old1 = x.old1;
+    let old2 = x.old2;
+    (run == 0)
+        & (operation == 0)
+        & (key1 == 0)
+        & (key2 == 0)
+        & (current1 == 0)
+        & (current2 == 0)
+        & (old1 == 0)
+        & (old2 == 0)
+}
+
+fn totals_lawful(x: Slot) -> bool
+    ensures { λ r. ⌜ r ≡ totalsLawful x ⌝ }
+{
+    is_lawful(x.current1) & is_lawful(x.current2) & is_lawful(x.old1) & is_lawful(x.old2)
+}
+
+fn used_well(x: Slot, version: Version) -> bool
+    requires { ⌜ badRecord version ≡ false ⌝ }
+    ensures { λ r. ⌜ r ≡ usedWell x version ⌝ }
+{
+    let run = x.run;
+    let operation = x.operation;
+    let old1 = x.old1;
+    let old2 = x.old2;
+    let last = version::last_run(version);
+    ((INSERT <= operation) & (operation <= DELETE))
+        & ((1 <= run) & (run <= last))
+        & totals_lawful(x)
+        & ((operation != INSERT) | ((old1 == 0) & (old2 == 0)))
+}
+
+// Refusal 6 is that a slot is not.
+pub fn well_formed(x: Slot, version: Version) -> bool
+    requires { ⌜ badRecord version ≡ false ⌝ }
+    ensures { λ r. ⌜ r ≡ wellFormed x version ⌝ }
+{
+    all_zeros(x) | used_well(x, version)
+}

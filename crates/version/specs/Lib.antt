@@ -1,0 +1,5 @@
+pub mod Record
+pub mod RecordLaws
+pub mod Sessions
+pub mod SessionLaws
+pub mod Runs

@@ -1,0 +1,37 @@
+-- The laws of the version record: what one that is not refused is, and that the number of its run fits a word. Assumes nothing.
+use mathlib.Core.Path.{_≡_, refl}
+use mathlib.Core.Bool.{true, false}
+use native.Mathlib.Omega.{arith}
+use lib.IntN.{ℤ, pos, negsuc, _+ℤ_}
+use lib.Signed.{leZ}
+use borrow.Author.Tests.{leb-true}
+use mir.Syntax.{w64}
+use mir.Val.{SFits}
+use Rattle.laws.specs.Tests.{any, none-at, not-no, clash}
+use Rattle.laws.specs.Order.{from-to}
+use Rattle.version.specs.declared.Version.{Version}
+use Rattle.version.specs.Record.{largestVersion, freshRecord, badRecord, runNumber}
+
+-- ---- what a record that is not refused is: current is from 1 to the largest version
+pub record Sound (v : Version) : Type 0 where
+  pub low : leZ (pos 1) (v .current) ≡ true
+  pub high : leZ (v .current) largestVersion ≡ true
+
+pub sound : {v : Version} → badRecord v ≡ false → Sound v
+unfolding badRecord
+sound {v} h =
+    let f = from-to {a = pos 1} {b = largestVersion} {z = v .current} (not-no (none-at _ 0 h)) in
+    record { low = f .low; high = f .high }
+
+-- the fresh record is one
+pub fresh-sound : badRecord freshRecord ≡ false
+unfolding badRecord any
+fresh-sound = refl
+
+-- the number of a run fits a word
+next-fits : (c : ℤ) → leZ (pos 1) c ≡ true → leZ c largestVersion ≡ true → SFits w64 (c +ℤ pos 1)
+next-fits (pos n) l h = record { sfits = omega (arith, leb-true n 1000000000 h) }
+next-fits (negsuc n) l h = clash l refl
+
+pub run-fits : (v : Version) → badRecord v ≡ false → SFits w64 (runNumber v)
+run-fits v h = let s = sound h in next-fits (v .current) (s .low) (s .high)
