@@ -88,3 +88,10 @@ none-passes p n h k l = by-test (p k) (λ y. clash (some-yes p n k l y) h) (λ m
 
 pub all-fail : (p : ℕ → Bool) (n : ℕ) → ((k : ℕ) → k < n → p k ≡ false) → some p n ≡ false
 all-fail p n f = by-test (some p n) (λ y. let s = some-lowest p n y in clash (s .1) (f (lowest p n) (s .0))) (λ m. m)
+
+-- ---- a search that has passed the indices below k ends at one that passes, or at the bound
+pub found : {p : ℕ → Bool} {n k : ℕ} → ((j : ℕ) → j < k → p j ≡ false) → k < n → p k ≡ true → Lowest p n k
+found b l h = record { within = omega arith; passes = λ i. h; below = b }
+
+pub exhausted : {p : ℕ → Bool} {n k : ℕ} → ((j : ℕ) → j < k → p j ≡ false) → n ≤ k → Lowest p n n
+exhausted {n} b l = record { within = omega arith; passes = λ i. absurd (omega arith); below = λ j i. b j (omega arith) }

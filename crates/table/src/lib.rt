@@ -8,6 +8,8 @@ ghost use Rattle.table.specs.Slots.{badTable, slots, slotAt, putSlot};
 ghost use Rattle.table.specs.Operations.{column, live};
 ghost use Rattle.table.specs.Totals.{lawful, unlawful};
 ghost use Rattle.table.specs.Formed.{allZeros, totalsLawful, usedWell, wellFormed};
+ghost use Rattle.table.specs.Keys.{hasKey, keySlot};
+ghost use Rattle.table.specs.Free.{longDeleted, free, freeSlot};
 use version::Version;
 
 // Eight words to a slot, and at most 1,024 slots.
@@ -187,4 +189,73 @@ pub fn well_formed(x: Slot, version: Version) -> bool
     ensures { λ r. ⌜ r ≡ wellFormed x version ⌝ }
 {
     all_zeros(x) | used_well(x, version)
+}
+
+// Whether the slot at a place is used and has the key.
+fn has_key(table: &[i64], k: usize, one: i64, two: i64) -> bool
+    requires { ⌜ badTable (now table) ≡ false ⌝ }
+    requires { ⌜ k < slots (now table) ⌝ }
+    ensures { λ r. ⌜ r ≡ hasKey (slotAt (now (table .entry)) k) one two ⌝ }
+{
+    let at = k * SLOT_WORDS;
+    if table[at + 1] == 0 {
+        return false;
+    }
+    if table[at + 2] != one {
+        return false;
+    }
+    if table[at + 3] != two {
+        return false;
+    }
+    true
+}
+
+// The number of the key's slot; the number of slots where the key has none.
+pub fn key_slot(table: &[i64], one: i64, two: i64) -> usize
+    requires { ⌜ badTable (now table) ≡ false ⌝ }
+    ensures { λ r. ⌜ r ≡ keySlot (now (table .entry)) one two ⌝ }
+{
+    let slots = table.len() / SLOT_WORDS;
+    let mut k: usize = 0;
+    while k < slots {
+        if has_key(table, k, one, two) {
+            return k;
+        }
+        k += 1;
+    }
+    slots
+}
+
+fn long_deleted(x: Slot, version: Version) -> bool
+    requires { ⌜ badRecord version ≡ false ⌝ }
+    ensures { λ r. ⌜ r ≡ longDeleted x version ⌝ }
+{
+    let run = x.run;
+    let operation = x.operation;
+    let running = version::run_number(version);
+    (operation == DELETE) & (run < running) & well_formed(x, version)
+}
+
+fn is_free(x: Slot, version: Version) -> bool
+    requires { ⌜ badRecord version ≡ false ⌝ }
+    ensures { λ r. ⌜ r ≡ free x version ⌝ }
+{
+    all_zeros(x) | long_deleted(x, version)
+}
+
+// The number of the lowest free slot; the number of slots where none is free.
+pub fn free_slot(table: &[i64], version: Version) -> usize
+    requires { ⌜ badTable (now table) ≡ false ⌝ }
+    requires { ⌜ badRecord version ≡ false ⌝ }
+    ensures { λ r. ⌜ r ≡ freeSlot (now (table .entry)) version ⌝ }
+{
+    let slots = table.len() / SLOT_WORDS;
+    let mut k: usize = 0;
+    while k < slots {
+        if is_free(slot_at(table, k), version) {
+            return k;
+        }
+        k += 1;
+    }
+    slots
 }

@@ -1,0 +1,44 @@
+-- `table::free_slot` meets its contract: nothing below k is free. Assumes nothing.
+use Prim.Native.Nat.{ℕ, _≤_, _<_, _-_}
+use mathlib.Core.Path.{_≡_, sym, _∙_}
+use mathlib.Core.Bool.{false}
+use native.Mathlib.Omega.{arith}
+use borrow.Author.Needs.{needs}
+use Rattle.laws.specs.Lowest.{lowest-only, below-next, found, exhausted}
+use Rattle.table.specs.Slots.{slotAt}
+use Rattle.table.specs.Free.{free}
+use Rattle.table.specs.FreeLaws.{freeSlot-is}
+use Rattle.table.proofs.free_slot.Statement.{statement}
+use Rattle.table.proofs.free_slot.Tie as tie
+
+abbrev Inv-loop : tie.InvT-loop
+Inv-loop table version slots k₀ k = (k ≤ slots) × ((j : ℕ) → j < k → free (slotAt table j) version ≡ false)
+
+abbrev μ-loop : tie.MeasureT-loop
+μ-loop table version slots k₀ k = slots - k
+
+-- the test was that of the slot at k
+tested : (c : tie.After-is-free Inv-loop μ-loop) → let l = c .before .before .before in
+    c .is-free .result ≡ free (slotAt (l .before .args .table .now) (l .loop .k)) (l .before .args .version)
+tested c = rw (c .before .slot-at .ensures) at (c .is-free .ensures)
+
+returns : tie.Need-returns Inv-loop μ-loop
+returns c =
+    let b = c .before in
+    lowest-only (found (b .before .before .before .loop .inv .1) (omega arith) (sym (tested b) ∙ c .if1 .taken)) (freeSlot-is _ _)
+
+loop-again : tie.Need-loop-again Inv-loop μ-loop
+loop-again c =
+    let b = c .before in
+    let l = b .before .before .before in
+    (omega arith, below-next {p = λ j. free (slotAt (l .before .args .table .now) j) (l .before .args .version)} (l .loop .inv .1) (sym (tested b) ∙ c .if1 .left))
+
+returns-2 : tie.Need-returns-2 Inv-loop μ-loop
+returns-2 c = lowest-only (exhausted (c .before .loop .inv .1) (omega arith)) (freeSlot-is _ _)
+
+pub free-slot-spec : {M : Type 1} → statement M
+free-slot-spec =
+    tie.close
+    (tie.spec Inv-loop μ-loop (λ c. (omega arith, λ j h. absurd (omega arith)))
+    (λ c κs. c .before .before .pre .0) (λ c κs. c .before .before .before .pre .1)
+    returns (λ c. omega arith) (λ c. omega arith) loop-again returns-2)

@@ -1,0 +1,60 @@
+-- `table::has_key` meets its contract: three words of the slot are read, each only where the test before it passed.
+-- Assumes nothing.
+use mathlib.Core.Path.{sym, ap}
+use mathlib.Core.Bool.{not}
+use Prim.Native.Nat.{_+_, _*_}
+use native.Mathlib.Omega.{arith}
+use lib.IntN.{pos}
+use mir.Syntax.{w64}
+use mir.Val.{SFits}
+use borrow.Author.Needs.{needs}
+use Rattle.laws.specs.Tests.{all-no, all-yes}
+use Rattle.laws.specs.Bits.{is, isnt}
+use Rattle.table.specs.Slots.{slotAt, word}
+use Rattle.table.specs.SlotLaws.{Lengths, lengths}
+use Rattle.table.specs.Keys.{hasKey}
+use Rattle.table.proofs.has_key.Statement.{statement}
+use Rattle.table.proofs.has_key.Tie as tie
+
+room : (c : tie.Start) → Lengths (c .args .table .now)
+room c = lengths _ (c .pre .0)
+
+op : (c : tie.After-if12) → SFits w64 (word (c .before .args .table .now) (c .before .args .k * 8 + 1))
+op c = record { sfits = c .if12 .given }
+
+one : (c : tie.After-if22) → SFits w64 (word (c .before .before .before .args .table .now) (c .before .before .before .args .k * 8 + 2))
+one c = record { sfits = c .if22 .given }
+
+two : (c : tie.After-if32) → SFits w64 (word (c .before .before .before .before .before .args .table .now) (c .before .before .before .before .before .args .k * 8 + 3))
+two c = record { sfits = c .if32 .given }
+
+returns : tie.Need-returns
+unfolding hasKey slotAt
+returns c = sym (all-no _ 0 (ap not (is _ (pos 0) (op (c .before)) (search needs) (c .if1 .taken))))
+
+returns-2 : tie.Need-returns-2
+unfolding hasKey slotAt
+returns-2 c = sym (all-no _ 1 (isnt _ _ (one (c .before)) (c .before .before .before .before .fits .one) (c .if2 .taken)))
+
+returns-3 : tie.Need-returns-3
+unfolding hasKey slotAt
+returns-3 c = sym (all-no _ 2 (isnt _ _ (two (c .before)) (c .before .before .before .before .before .before .fits .two) (c .if3 .taken)))
+
+returns-4 : tie.Need-returns-4
+unfolding hasKey slotAt
+returns-4 c =
+    let d = c .before .before in
+    let e = d .before .before in
+    let f = e .before .before .fits in
+    let p = isnt _ (pos 0) (op (e .before)) (search needs) (e .if1 .left) in
+    let q = is _ _ (one (d .before)) (f .one) (d .if2 .left) in
+    let r = is _ _ (two (c .before)) (f .two) (c .if3 .left) in
+    sym (all-yes _ (ap not p, (q, (r, tt))))
+
+pub has-key-spec : {M : Type 1} → statement M
+has-key-spec =
+    tie.close
+    (tie.spec (λ c. omega (arith, room c)) (λ c. omega (arith, room c)) (λ c. omega (arith, room c)) (λ c. omega (arith, room c)) returns
+    (λ c. omega (arith, room (c .before .before))) (λ c. omega (arith, room (c .before .before))) (λ c. omega (arith, room (c .before .before))) returns-2
+    (λ c. omega (arith, room (c .before .before .before .before))) (λ c. omega (arith, room (c .before .before .before .before))) (λ c. omega (arith, room (c .before .before .before .before))) returns-3
+    returns-4)
