@@ -250,12 +250,12 @@ pub fn free_slot(table: &[i64], version: Version) -> usize
     ensures { λ r. ⌜ r ≡ freeSlot (now (table .entry)) version ⌝ }
 {
     let slots = table.len() / SLOT_WORDS;
-    let mut k: usize = 0;
-    while k < slots {
-        if is_free(slot_at(table, k), version) {
-            return k;
+    let mut place: usize = 0;
+    while place < slots {
+        if is_free(slot_at(table, place), version) {
+            return place;
         }
-        k += 1;
+        place += 1;
     }
     slots
 }

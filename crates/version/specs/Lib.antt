@@ -3,3 +3,4 @@ pub mod RecordLaws
 pub mod Sessions
 pub mod SessionLaws
 pub mod Runs
+pub mod RunLaws

@@ -26,6 +26,10 @@ openAnswer v = unless (openRefusal v) Refused (Number (v .current))
 pub record Opened (v : Version) (r : Numbered) : Type 0 where
   pub answer : r ≡ openAnswer v
 
+-- a refusal leaves the record as it was
+abbrev pub keptAs : Version → ℕ → Turned
+keptAs v n = record { answer = Refused n; version = v }
+
 -- ---- begin: 2, 7, 9
 abbrev pub beginTests : Version → List (Bool × ℕ)
 beginTests v =

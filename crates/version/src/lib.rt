@@ -1,9 +1,11 @@
-// The version record: the current version and whether a run is active. Its tests (refusals 2, 3 and 4) and its numbers are
-// leaves for our other crates. Each test is one expression of & and |, with no branch, and so has one return to prove.
+// The version record: the current version and whether a run is active; open, begin and commit of it by value. Its tests
+// (refusals 2, 3 and 4) and its numbers are leaves for our other crates. Each test is one expression of & and |, with no
+// branch, and so has one return to prove.
 ghost use mathlib.Core.Path.{_≡_};
 ghost use mathlib.Core.Bool.{false};
 ghost use Rattle.version.specs.Record.{freshRecord, badRecord, runNumber, lastRun};
 ghost use Rattle.version.specs.Sessions.{unborn, expired};
+ghost use Rattle.version.specs.Runs.{Opened, keptAs, Begun, Committed};
 
 pub struct Version {
     pub current: i64,
@@ -81,4 +83,67 @@ pub fn last_run(version: Version) -> i64
         return run_number(version);
     }
     version.current
+}
+
+// Open: current, run or no run.
+pub fn open(version: Version) -> Numbered
+    ensures { λ r. ⌜ Opened version r ⌝ }
+{
+    if bad_record(version) {
+        return Numbered::Refused(2);
+    }
+    Numbered::Number(version.current)
+}
+
+// A refusal, with the record as it was.
+fn kept(version: Version, number: u32) -> Turned
+    ensures { λ r. ⌜ r ≡ keptAs version number ⌝ }
+{
+    Turned {
+        answer: Numbered::Refused(number),
+        version: version,
+    }
+}
+
+// Begin, by value.
+pub fn begun(version: Version) -> Turned
+    ensures { λ r. ⌜ Begun version r ⌝ }
+{
+    if bad_record(version) {
+        return kept(version, 2);
+    }
+    if version.active {
+        return kept(version, 7);
+    }
+    let current = version.current;
+    if current == Version::LARGEST {
+        return kept(version, 9);
+    }
+    Turned {
+        answer: Numbered::Number(run_number(version)),
+        version: Version {
+            current: current,
+            active: true,
+        },
+    }
+}
+
+// Commit, by value.
+pub fn committed(version: Version) -> Turned
+    ensures { λ r. ⌜ Committed version r ⌝ }
+{
+    if bad_record(version) {
+        return kept(version, 2);
+    }
+    if !version.active {
+        return kept(version, 8);
+    }
+    let next = run_number(version);
+    Turned {
+        answer: Numbered::Number(next),
+        version: Version {
+            current: next,
+            active: false,
+        },
+    }
 }

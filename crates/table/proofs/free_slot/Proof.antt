@@ -1,4 +1,4 @@
--- `table::free_slot` meets its contract: nothing below k is free. Assumes nothing.
+-- `table::free_slot` meets its contract: nothing below the place is free. Assumes nothing.
 use Prim.Native.Nat.{ℕ, _≤_, _<_, _-_}
 use mathlib.Core.Path.{_≡_, sym, _∙_}
 use mathlib.Core.Bool.{false}
@@ -12,14 +12,14 @@ use Rattle.table.proofs.free_slot.Statement.{statement}
 use Rattle.table.proofs.free_slot.Tie as tie
 
 abbrev Inv-loop : tie.InvT-loop
-Inv-loop table version slots k₀ k = (k ≤ slots) × ((j : ℕ) → j < k → free (slotAt table j) version ≡ false)
+Inv-loop table version slots place₀ place = (place ≤ slots) × ((j : ℕ) → j < place → free (slotAt table j) version ≡ false)
 
 abbrev μ-loop : tie.MeasureT-loop
-μ-loop table version slots k₀ k = slots - k
+μ-loop table version slots place₀ place = slots - place
 
--- the test was that of the slot at k
+-- the test was that of the slot at the place
 tested : (c : tie.After-is-free Inv-loop μ-loop) → let l = c .before .before .before in
-    c .is-free .result ≡ free (slotAt (l .before .args .table .now) (l .loop .k)) (l .before .args .version)
+    c .is-free .result ≡ free (slotAt (l .before .args .table .now) (l .loop .place)) (l .before .args .version)
 tested c = rw (c .before .slot-at .ensures) at (c .is-free .ensures)
 
 returns : tie.Need-returns Inv-loop μ-loop

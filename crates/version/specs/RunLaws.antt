@@ -1,0 +1,52 @@
+-- How the contracts of begin and commit are shown: a refusal leaves the record as it was; what is not refused is done. And what
+-- was tested where a call is accepted. Assumes nothing.
+use mathlib.Core.Path.{_≡_}
+use mathlib.Core.Bool.{true, false}
+use Prim.Native.Nat.{ℕ}
+use Rattle.laws.specs.Tests.{not-no}
+use Rattle.laws.specs.First.{unless-refused, unless-done, none}
+use Rattle.laws.specs.Order.{eqZ}
+use Rattle.version.specs.declared.Version.{Version}
+use Rattle.version.specs.declared.Numbered.the-variants.{Number, Refused}
+use Rattle.version.specs.declared.Turned.{Turned}
+use Rattle.version.specs.Record.{largestVersion, badRecord, runNumber}
+use Rattle.version.specs.Runs.{keptAs, beginRefusal, beginAnswer, beginRecord, begunFrom, Begun, commitRefusal, commitAnswer, commitRecord, committedFrom, Committed}
+
+pub begin-kept : {v : Version} {n : ℕ} → beginRefusal v ≡ n → (n ≡ 0 → ⊥) → Begun v (keptAs v n)
+unfolding beginAnswer beginRecord
+begin-kept {v} e z = record { answer = unless-refused Refused (Number (runNumber v)) e z; version = unless-refused (λ n. v) (begunFrom v) e z }
+
+pub begin-done : {v : Version} {r : Turned} → beginRefusal v ≡ 0 → r .answer ≡ Number (runNumber v) → r .version ≡ begunFrom v → Begun v r
+unfolding beginAnswer beginRecord
+begin-done {v} e a b = record { answer = unless-done Refused e a; version = unless-done (λ n. v) e b }
+
+pub commit-kept : {v : Version} {n : ℕ} → commitRefusal v ≡ n → (n ≡ 0 → ⊥) → Committed v (keptAs v n)
+unfolding commitAnswer commitRecord
+commit-kept {v} e z = record { answer = unless-refused Refused (Number (runNumber v)) e z; version = unless-refused (λ n. v) (committedFrom v) e z }
+
+pub commit-done : {v : Version} {r : Turned} → commitRefusal v ≡ 0 → r .answer ≡ Number (runNumber v) → r .version ≡ committedFrom v → Committed v r
+unfolding commitAnswer commitRecord
+commit-done {v} e a b = record { answer = unless-done Refused e a; version = unless-done (λ n. v) e b }
+
+-- ---- an accepted begin: the record is sound, no run is active, and a version is left
+pub record CanBegin (v : Version) : Type 0 where
+  pub known : badRecord v ≡ false
+  pub idle : v .active ≡ false
+  pub room : eqZ (v .current) largestVersion ≡ false
+
+pub can-begin : (v : Version) → beginRefusal v ≡ 0 → CanBegin v
+unfolding beginRefusal
+can-begin v h =
+    let no = none _ tt h in
+    record { known = no 2; idle = no 7; room = no 9 }
+
+-- ---- an accepted commit: the record is sound, and a run is active
+pub record CanCommit (v : Version) : Type 0 where
+  pub known : badRecord v ≡ false
+  pub active : v .active ≡ true
+
+pub can-commit : (v : Version) → commitRefusal v ≡ 0 → CanCommit v
+unfolding commitRefusal
+can-commit v h =
+    let no = none _ tt h in
+    record { known = no 2; active = not-no (no 8) }
