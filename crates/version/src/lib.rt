@@ -92,7 +92,8 @@ pub fn open(version: Version) -> Numbered
     if bad_record(version) {
         return Numbered::Refused(2);
     }
-    Numbered::Number(version.current)
+    let current = version.current;
+    Numbered::Number(current)
 }
 
 // A refusal, with the record as it was.
