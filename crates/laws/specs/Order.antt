@@ -70,8 +70,8 @@ pub record FromTo (a b z : ℤ) : Type 0 where
   pub low : leZ a z ≡ true
   pub high : leZ z b ≡ true
 
-pub from-to : {a b z : ℤ} → fromTo a b z ≡ true → FromTo a b z
-from-to {a} {b} {z} h =
+pub from-to : (a b z : ℤ) → fromTo a b z ≡ true → FromTo a b z
+from-to a b z h =
     by-test (leZ a z) (λ y. record { low = y; high = rw y at h }) (λ n. clash (rw n at h) refl)
 
 -- ---- the next number, and the one before, of one that is at least 1

@@ -36,4 +36,4 @@ within (negsuc n) h = omega (arith, leb-true n 999999999999999 (h .low))
 
 pub lawful-within : (z : ℤ) → lawful z ≡ true → natAbs z ≤ largestTotal
 unfolding lawful
-lawful-within z h = within z (from-to h)
+lawful-within z h = within z (from-to _ _ _ h)

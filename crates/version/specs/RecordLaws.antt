@@ -20,7 +20,7 @@ pub record Sound (v : Version) : Type 0 where
 pub sound : {v : Version} → badRecord v ≡ false → Sound v
 unfolding badRecord
 sound {v} h =
-    let f = from-to {a = pos 1} {b = largestVersion} {z = v .current} (not-no (none-at _ 0 h)) in
+    let f = from-to (pos 1) largestVersion (v .current) (not-no (none-at _ 0 h)) in
     record { low = f .low; high = f .high }
 
 -- the fresh record is one
