@@ -1,5 +1,5 @@
 -- Tables 2, 3 and 4 of the source: what an insert, an update and a delete write on a slot, chosen by older or same run and by
--- operation, with the laws of each cell. Only this crate unfolds `changed`. Assumes nothing.
+-- operation. Only this crate unfolds `changed`. Assumes nothing.
 use mathlib.Core.List.{List, [], _∷_}
 use Prim.Native.Nat.{ℕ}
 use lib.IntN.{ℤ, pos}

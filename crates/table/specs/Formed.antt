@@ -1,5 +1,5 @@
--- A well formed slot, refusal 6, and their laws. Only this crate unfolds the definitions here; what they mean outside is
--- `Used`: a well formed slot is empty, or used as `Used` says. Assumes nothing.
+-- A well formed slot, and refusal 6. Only this crate unfolds the definitions here; what they mean outside is `Used` of
+-- `FormedLaws`. Assumes nothing.
 use mathlib.Core.Bool.{Bool, not, _&&_, _||_}
 use mathlib.Core.List.{List, [], _∷_}
 use lib.IntN.{ℤ, pos}

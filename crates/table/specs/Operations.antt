@@ -1,5 +1,5 @@
--- The operation word of a slot: its values, its column in the decision tables, and live, with their laws. Only this crate
--- unfolds `column` and `live`. Assumes nothing.
+-- The operation word of a slot: its values, its column in the decision tables, and live. Only this crate unfolds
+-- `column` and `live`. Assumes nothing.
 use mathlib.Core.Bool.{Bool, cond, _||_}
 use Prim.Native.Nat.{ℕ}
 use lib.IntN.{ℤ, pos}

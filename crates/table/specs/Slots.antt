@@ -1,4 +1,4 @@
--- The table as slots: how many there are, refusal 1, the slot at a place, a slot put at a place, and the laws of the two.
+-- The table as slots: how many there are, refusal 1, the slot at a place, and a slot put at a place.
 -- Above this module nobody speaks of words. Only this crate unfolds `badTable`, `slotAt` and `putSlot`. Assumes nothing.
 use mathlib.Core.Bool.{Bool, not}
 use mathlib.Core.List.{List, [], _∷_}
