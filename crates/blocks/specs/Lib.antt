@@ -5,3 +5,10 @@ pub mod SaveHeader
 pub mod SaveBlock
 pub mod LoadHeader
 pub mod LoadBlock
+pub mod Groups
+pub mod WordLaws
+pub mod HeaderLaws
+pub mod SlotBlockLaws
+pub mod LoadedLaws
+pub mod RoundTrip
+pub mod OneWord

@@ -27,7 +27,11 @@ pub record Used (x : Slot) (v : Version) : Type 0 where
   pub old2 : lawful (x .old2) ≡ true
   pub old-of-insert : (not (eqZ (x .operation) insertOperation) || oldZero x) ≡ true
 
--- ---- an empty slot is well formed, and a used one is
+-- ---- an empty slot is all zeros and well formed, and a used one is well formed
+pub empty-zeros : allZeros empty ≡ true
+unfolding allZeros all
+empty-zeros = refl
+
 pub empty-formed : (v : Version) → wellFormed empty v ≡ true
 unfolding wellFormed allZeros all
 empty-formed v = refl

@@ -37,7 +37,7 @@ slot-path a b c d e f g h i =
     record { run = a i; operation = b i; key1 = c i; key2 = d i; current1 = e i; current2 = f i; old1 = g i; old2 = h i }
 
 -- where one rule gives each word
-by-words : {x y : Slot} → ((n : ℕ) → n < slotWords → getD (wordsOf x) n (pos 0) ≡ getD (wordsOf y) n (pos 0)) → x ≡ y
+pub by-words : {x y : Slot} → ((n : ℕ) → n < slotWords → getD (wordsOf x) n (pos 0) ≡ getD (wordsOf y) n (pos 0)) → x ≡ y
 by-words w = slot-path (w 0 (omega arith)) (w 1 (omega arith)) (w 2 (omega arith)) (w 3 (omega arith)) (w 4 (omega arith)) (w 5 (omega arith)) (w 6 (omega arith)) (w 7 (omega arith))
 
 -- a word of the slot at a place is a word of the table
@@ -65,9 +65,13 @@ pub put-length : (t : List ℤ) (k : ℕ) (x : Slot) → length (putSlot t k x) 
 unfolding putSlot
 put-length t k x = length-sets t (k * slotWords) (wordsOf x)
 
-pub put-sound : (t : List ℤ) (k : ℕ) (x : Slot) → badTable (putSlot t k x) ≡ badTable t
+-- tables of one length are refused alike
+pub same-length : (t u : List ℤ) → length u ≡ length t → badTable u ≡ badTable t
 unfolding badTable
-put-sound t k x = rw (put-length t k x)
+same-length t u e = rw e
+
+pub put-sound : (t : List ℤ) (k : ℕ) (x : Slot) → badTable (putSlot t k x) ≡ badTable t
+put-sound t k x = same-length t _ (put-length t k x)
 
 pub put-same : (t : List ℤ) (k : ℕ) (x : Slot) → badTable t ≡ false → k < slots t → slotAt (putSlot t k x) k ≡ x
 unfolding putSlot

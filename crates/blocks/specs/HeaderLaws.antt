@@ -1,0 +1,89 @@
+-- The words of a saved header: where the save is not refused its block is the one of the header's words, which fit; read
+-- off their places they are none of them wrong, and are the slots of the table and the current version. Assumes nothing.
+use mathlib.Core.Path.{_≡_, refl}
+use mathlib.Core.Bool.{true, false}
+use mathlib.Core.List.{List, [], _∷_}
+use Prim.Native.Nat.{ℕ, zero, suc, _≤_, _<_}
+use native.Mathlib.Omega.{arith}
+use lib.IntN.{ℤ, pos, negsuc, natAbs}
+use lib.Signed.{leZ}
+use lib.ListN.{getD, replicate}
+use borrow.Author.Tests.{leb-true, le-leb}
+use Rattle.laws.specs.Tests.{any, clash}
+use Rattle.laws.specs.First.{none}
+use Rattle.laws.specs.Order.{fromTo}
+use Rattle.laws.specs.Digits.{EachBelow}
+use Rattle.version.specs.declared.Version.{Version}
+use Rattle.version.specs.Record.{largestVersion, badRecord}
+use Rattle.version.specs.RecordLaws.{sound}
+use Rattle.table.specs.Slots.{badTable, slots}
+use Rattle.table.specs.SlotLaws.{lengths}
+use Rattle.blocks.specs.declared.Header.the-variants.{Of}
+use Rattle.blocks.specs.Words.{checkPlace, wordBase, blockOf, wordAt}
+use Rattle.blocks.specs.Groups.{zeros-below}
+use Rattle.blocks.specs.WordLaws.{BlockWords, block-word, filler-zero}
+use Rattle.blocks.specs.Headers.{headerWords, headerWrong, headerOf}
+use Rattle.blocks.specs.SaveHeader.{saveHeaderRefusal, saveHeaderBlock}
+
+-- a lawful version is a number of its own size
+record Natural (c : ℤ) : Type 0 where
+  back : pos (natAbs c) ≡ c
+  small : natAbs c ≤ natAbs largestVersion
+  lawful : fromTo (pos 1) largestVersion (pos (natAbs c)) ≡ true
+
+natural : (c : ℤ) → leZ (pos 1) c ≡ true → leZ c largestVersion ≡ true → Natural c
+natural (pos n) l h = record { back = refl; small = leb-true n (natAbs largestVersion) h; lawful = rw (l, h) }
+natural (negsuc n) l h = clash l refl
+
+-- ---- a save that is not refused
+module _ (t : List ℤ) (v : Version) (allowed : saveHeaderRefusal t v ≡ 0) where
+  table-sound : badTable t ≡ false
+  unfolding saveHeaderRefusal
+  table-sound = none _ tt allowed 1
+
+  record-sound : badRecord v ≡ false
+  unfolding saveHeaderRefusal
+  record-sound = none _ tt allowed 2
+
+  current : Natural (v .current)
+  current = let s = sound record-sound in natural (v .current) (s .low) (s .high)
+
+  -- the block is that of the header's words
+  pub header-saved : saveHeaderBlock t v ≡ blockOf (headerWords t v)
+  unfolding saveHeaderBlock
+  header-saved = rw allowed
+
+  -- which are 127, each below 2^32
+  pub header-words : BlockWords (headerWords t v)
+  unfolding headerWords
+  header-words = record { size = refl; below = below }
+    where
+      below : EachBelow wordBase (0 ∷ slots t ∷ natAbs (v .current) ∷ replicate 124 0)
+      below zero = omega arith
+      below (suc zero) = omega (arith, lengths t table-sound .few)
+      below (suc (suc zero)) = omega (arith, current .small)
+      below (suc (suc (suc i))) = zeros-below wordBase (omega arith) 124 i
+
+  -- each read off its place
+  header-at : (i : ℕ) → i < checkPlace → wordAt (blockOf (headerWords t v)) i ≡ getD (headerWords t v) i 0
+  header-at = block-word (headerWords t v) header-words
+
+  -- none of them is wrong
+  pub header-right : headerWrong (blockOf (headerWords t v)) ≡ false
+  unfolding headerWrong headerWords any
+  header-right =
+      let few = lengths t table-sound in
+      rw (
+        header-at 0 (omega arith),
+        header-at 1 (omega arith),
+        header-at 2 (omega arith),
+        current .lawful,
+        le-leb 1 (slots t) (few .some),
+        le-leb (slots t) 1024 (few .few),
+        filler-zero _ header-words (0 ∷ slots t ∷ natAbs (v .current) ∷ []) 124 refl,
+      )
+
+  -- and they are the slots of the table and the current version
+  pub header-read : headerOf (blockOf (headerWords t v)) ≡ Of (slots t) (v .current)
+  unfolding headerOf headerWords
+  header-read = rw (header-at 1 (omega arith), header-at 2 (omega arith), current .back)

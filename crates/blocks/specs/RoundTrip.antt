@@ -1,0 +1,154 @@
+-- What was saved is loaded again. Of a save that is not refused: a load of its header answers the slots and the current
+-- version, a load of its block writes the table's own slots and no other, and a load of every block of a table, into any
+-- table of its length, gives that table. The calls' tests fail one by one, by the laws of their words and slots.
+-- Assumes nothing.
+use mathlib.Core.Path.{_≡_, refl, sym, _∙_}
+use mathlib.Core.Bool.{false}
+use mathlib.Core.List.{List, _∷_}
+use Prim.Native.Nat.{ℕ, zero, suc, _+_, _*_, _-_, _≤_, _<_}
+use native.Mathlib.Omega.{arith}
+use lib.Dec.{ltb}
+use lib.IntN.{ℤ}
+use lib.ListN.{length}
+use borrow.Author.Tests.{ltb-true, ltb-false, eq-eqb}
+use Rattle.laws.specs.Tests.{any, by-test}
+use Rattle.laws.specs.First.{none, skip, done}
+use Rattle.laws.specs.Lowest.{none-passes, all-fail}
+use Rattle.version.specs.declared.Version.{Version}
+use Rattle.table.specs.Slots.{badTable, slots, slotAt}
+use Rattle.table.specs.SlotLaws.{slotAt-past, same-length, by-slots}
+use Rattle.table.specs.Formed.{broken}
+use Rattle.table.specs.FormedLaws.{empty-zeros}
+use Rattle.blocks.specs.declared.Header.the-variants.{Of}
+use Rattle.blocks.specs.declared.Loaded.the-variants.{Done}
+use Rattle.blocks.specs.Words.{blockOf}
+use Rattle.blocks.specs.WordLaws.{block-whole, block-word, check-right, filler-zero}
+use Rattle.blocks.specs.HeaderLaws.{header-saved, header-words, header-right, header-read}
+use Rattle.blocks.specs.Slots.{blockSlots, blocks, firstSlot, blockBroken, slotsFrom, slotBlockWords, slotWrong, slotBlockWrong, loadedTo}
+use Rattle.blocks.specs.SlotBlockLaws.{Fitting, table-sound, slots-saved, slot-words, slot-back}
+use Rattle.blocks.specs.LoadedLaws.{loaded-length, loaded-other, loaded-same}
+use Rattle.blocks.specs.SaveHeader.{saveHeaderRefusal, saveHeaderBlock}
+use Rattle.blocks.specs.SaveBlock.{saveBlockRefusal, saveBlockBlock}
+use Rattle.blocks.specs.LoadHeader.{loadHeaderRefusal, loadHeaderAnswer}
+use Rattle.blocks.specs.LoadBlock.{loadBlockRefusal, loadBlockAnswer, loadBlockWords}
+
+-- ---- the header
+module _ (t : List ℤ) (v : Version) (allowed : saveHeaderRefusal t v ≡ 0) where
+  -- a load of it is not refused
+  pub header-loads : loadHeaderRefusal (saveHeaderBlock t v) ≡ 0
+  unfolding loadHeaderRefusal
+  header-loads =
+      let made = header-words t v allowed in
+      rw (header-saved t v allowed)
+      (skip 14 _ (block-whole _ made) ∙ skip 15 _ (check-right _ made) ∙ skip 16 _ (header-right t v allowed) ∙ done)
+
+  -- and answers the slots of the table and the current version
+  pub header-back : loadHeaderAnswer (saveHeaderBlock t v) ≡ Of (slots t) (v .current)
+  unfolding loadHeaderAnswer
+  header-back = rw (header-loads, header-saved t v allowed) (header-read t v allowed)
+
+-- ---- a block
+-- one table has the slots of another from a place on, so many of them, and its own elsewhere
+pub record Restored (t u loaded : List ℤ) (from count : ℕ) : Type 0 where
+  pub whole : length loaded ≡ length u
+  pub inside : (j : ℕ) → from ≤ j → j < from + count → slotAt loaded j ≡ slotAt t j
+  pub outside : (j : ℕ) → ((from ≤ j) × (j < from + count) → ⊥) → slotAt loaded j ≡ slotAt u j
+
+-- tables of one length are both empty beyond it
+beyond : (t u : List ℤ) → length u ≡ length t → badTable t ≡ false → (j : ℕ) → slots t ≤ j → slotAt u j ≡ slotAt t j
+beyond t u same sound j h = slotAt-past u j (same-length t u same ∙ sound) (rw same h) ∙ sym (slotAt-past t j sound h)
+
+module _ (t u : List ℤ) (v : Version) (k : ℕ) (fitting : Fitting t) (same : length u ≡ length t) (allowed : saveBlockRefusal t v k ≡ 0) where
+  -- the other table is not refused either
+  sound : badTable u ≡ false
+  sound = same-length t u same ∙ table-sound t v k allowed
+
+  -- each slot of the block is one that a load takes: well formed in the table, and zero beyond it
+  slot-right : (j : ℕ) → j < blockSlots → slotWrong u v k (blockOf (slotBlockWords t k)) j ≡ false
+  unfolding saveBlockRefusal blockBroken
+  slot-right j a =
+      by-test (ltb (firstSlot k + j) (slots u))
+      (λ y. rw (y, slot-back t v k allowed fitting j a) (none-passes (λ i. broken (slotAt t (firstSlot k + i)) v) blockSlots (none _ tt allowed 6) j a))
+      (λ m. let past : slots t ≤ firstSlot k + j = omega (arith, ltb-false (firstSlot k + j) (slots u) m) in
+      rw (m, slot-back t v k allowed fitting j a, slotAt-past t (firstSlot k + j) (table-sound t v k allowed) past, empty-zeros))
+
+  -- so its words are not wrong
+  slots-right : slotBlockWrong u v k (blockOf (slotBlockWords t k)) ≡ false
+  unfolding slotBlockWrong slotBlockWords any
+  slots-right =
+      let made = slot-words t v k allowed in
+      rw (
+        block-word _ made 0 (omega arith),
+        eq-eqb k k refl,
+        filler-zero _ made (k ∷ slotsFrom t (firstSlot k) blockSlots) 14 refl,
+        all-fail (slotWrong u v k (blockOf (slotBlockWords t k))) blockSlots slot-right,
+      )
+
+  -- a load of it is not refused
+  pub block-loads : loadBlockRefusal u v k (saveBlockBlock t v k) ≡ 0
+  unfolding loadBlockRefusal saveBlockRefusal
+  block-loads =
+      let made = slot-words t v k allowed in
+      rw (slots-saved t v k allowed)
+      (skip 1 _ sound ∙ skip 2 _ (none _ tt allowed 2) ∙ skip 7 _ (none _ tt allowed 7) ∙ skip 5 _ (rw same (none _ tt allowed 5))
+      ∙ skip 14 _ (block-whole _ made) ∙ skip 15 _ (check-right _ made) ∙ skip 16 _ slots-right ∙ done)
+
+  -- and is done
+  pub block-done : loadBlockAnswer u v k (saveBlockBlock t v k) ≡ Done
+  unfolding loadBlockAnswer
+  block-done = rw block-loads
+
+  written : loadBlockWords u v k (saveBlockBlock t v k) ≡ loadedTo u k (blockOf (slotBlockWords t k)) blockSlots
+  unfolding loadBlockWords
+  written = rw (block-loads, slots-saved t v k allowed)
+
+  slot-same : (i : ℕ) → i < blockSlots → slotAt (loadedTo u k (blockOf (slotBlockWords t k)) blockSlots) (firstSlot k + i) ≡ slotAt t (firstSlot k + i)
+  slot-same i a =
+      let block = blockOf (slotBlockWords t k) in
+      by-test (ltb (firstSlot k + i) (slots u))
+      (λ y. loaded-same u k block sound blockSlots i a (ltb-true (firstSlot k + i) (slots u) y) ∙ slot-back t v k allowed fitting i a)
+      (λ m. beyond t _ (loaded-length u k block blockSlots ∙ same) (table-sound t v k allowed) (firstSlot k + i)
+      (omega (arith, ltb-false (firstSlot k + i) (slots u) m)))
+
+  -- it writes the slots of the block as they were saved, and no other
+  pub block-back : Restored t u (loadBlockWords u v k (saveBlockBlock t v k)) (firstSlot k) blockSlots
+  block-back = rw written (record {
+    whole = loaded-length u k (blockOf (slotBlockWords t k)) blockSlots;
+    inside = λ j l h. let e : firstSlot k + (j - firstSlot k) ≡ j = omega arith in rw e at (slot-same (j - firstSlot k) (omega arith));
+    outside = λ j out. loaded-other u k (blockOf (slotBlockWords t k)) blockSlots j (λ i a e. out (omega arith, omega arith));
+  })
+
+-- ---- every block
+-- the first n blocks of one table loaded into another
+abbrev pub loadAll : List ℤ → Version → List ℤ → ℕ → List ℤ
+loadAll t v u zero = u
+loadAll t v u (suc n) = loadBlockWords (loadAll t v u n) v (suc n) (saveBlockBlock t v (suc n))
+
+module _ (t u : List ℤ) (v : Version) (fitting : Fitting t) (sound : badTable t ≡ false) (same : length u ≡ length t)
+    (allowed : (k : ℕ) → 1 ≤ k → k ≤ blocks t → saveBlockRefusal t v k ≡ 0) where
+  -- one more block, into a table of that length
+  next : (n : ℕ) → n < blocks t → length (loadAll t v u n) ≡ length t
+      → Restored t (loadAll t v u n) (loadAll t v u (suc n)) (firstSlot (suc n)) blockSlots
+  next n h whole = block-back t (loadAll t v u n) v (suc n) fitting whole (allowed (suc n) (omega arith) h)
+
+  all-length : (n : ℕ) → n ≤ blocks t → length (loadAll t v u n) ≡ length t
+  all-length zero h = same
+  all-length (suc n) h = let before = all-length n (omega arith) in next n h before .whole ∙ before
+
+  -- the slots of the blocks so far are the table's
+  all-slots : (n : ℕ) → n ≤ blocks t → (j : ℕ) → j < n * blockSlots → slotAt (loadAll t v u n) j ≡ slotAt t j
+  all-slots zero h j l = absurd (omega arith)
+  all-slots (suc n) h j l =
+      let step = next n h (all-length n (omega arith)) in
+      by-test (ltb j (n * blockSlots))
+      (λ y. step .outside j (omega (arith, ltb-true j (n * blockSlots) y)) ∙ all-slots n (omega arith) j (ltb-true j (n * blockSlots) y))
+      (λ m. step .inside j (omega (arith, ltb-false j (n * blockSlots) m)) (omega arith))
+
+  -- so the whole table is back
+  pub all-back : loadAll t v u (blocks t) ≡ t
+  all-back =
+      let whole = all-length (blocks t) (omega arith) in
+      by-slots _ t whole
+      (λ j. by-test (ltb j (slots t))
+      (λ y. all-slots (blocks t) (omega arith) j (omega (arith, ltb-true j (slots t) y)))
+      (λ m. beyond t _ whole sound j (ltb-false j (slots t) m)))

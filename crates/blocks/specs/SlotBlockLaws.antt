@@ -1,0 +1,143 @@
+-- The slots of a saved block come back: where the save is not refused, its block is the one of its slots' words, which fit,
+-- and slot j of it is slot j from the block's first of the table. A slot is sixteen halves and a word is two of them, so
+-- each half is read off its place, two are put together, and the word reads back as itself. Assumes nothing.
+use mathlib.Core.Path.{_≡_, refl, ap, _∙_}
+use mathlib.Core.Bool.{false}
+use mathlib.Core.List.{List, [], _∷_, _++_, flatMap}
+use Prim.Native.Nat.{ℕ, zero, suc, _+_, _*_, _<_}
+use native.Mathlib.Nat.{add-zero, add-suc, suc-add}
+use native.Mathlib.Omega.{arith}
+use lib.IntN.{ℤ, pos}
+use lib.ListN.{length, getD, replicate, List·getD-append}
+use mir.Syntax.{w64}
+use mir.Val.{SFits, ofZ}
+use mir.ValLaws.{ofZ-fits}
+use borrow.Author.Tests.{leb-true}
+use Rattle.laws.specs.Tests.{not-no}
+use Rattle.laws.specs.Order.{FromTo, from-to}
+use Rattle.laws.specs.Bits.{plain}
+use Rattle.laws.specs.First.{none}
+use Rattle.laws.specs.Digits.{EachBelow, digits-length, digits-below, number-digits}
+use Rattle.version.specs.declared.Version.{Version}
+use Rattle.table.specs.declared.Slot.{Slot}
+use Rattle.table.specs.Slots.{slotWords, badTable, wordsOf, word, slotAt, empty}
+use Rattle.table.specs.SlotLaws.{lengths, slot-path, word-at}
+use Rattle.blocks.specs.Words.{wordBase, blockOf, wordAt}
+use Rattle.blocks.specs.Groups.{groups-length, groups-at, groups-below, append-below, zeros-below}
+use Rattle.blocks.specs.WordLaws.{BlockWords, block-word}
+use Rattle.blocks.specs.Slots.{blockSlots, blocks, firstSlot, halves, slotsFrom, slotBlockWords, longAt, blockSlot}
+use Rattle.blocks.specs.SaveBlock.{saveBlockRefusal, saveBlockBlock}
+
+-- the words of a table are machine words
+abbrev pub Fitting : List ℤ → Type 0
+Fitting t = (i : ℕ) → SFits w64 (word t i)
+
+-- ---- halves in their groups: two to a word, sixteen to a slot
+halves-length : (z : ℤ) → length (halves z) ≡ 2
+halves-length z = digits-length wordBase 2 (ofZ w64 z)
+
+slotHalves : Slot → List ℕ
+slotHalves x = flatMap halves (wordsOf x)
+
+slotHalves-length : (x : Slot) → length (slotHalves x) ≡ 16
+unfolding slotHalves
+slotHalves-length x = groups-length halves 2 halves-length (wordsOf x)
+
+slotHalves-below : (x : Slot) → EachBelow wordBase (slotHalves x)
+unfolding slotHalves
+slotHalves-below x = groups-below halves wordBase (omega arith) (λ z. digits-below wordBase 2 (ofZ w64 z) (omega arith)) (wordsOf x)
+
+-- so many slots from a place
+slotsAt : List ℤ → ℕ → ℕ → List Slot
+slotsAt t from zero = []
+slotsAt t from (suc n) = slotAt t from ∷ slotsAt t (suc from) n
+
+slotsAt-length : (t : List ℤ) (from n : ℕ) → length (slotsAt t from n) ≡ n
+unfolding slotsAt
+slotsAt-length t from zero = refl
+slotsAt-length t from (suc n) = ap suc (slotsAt-length t (suc from) n)
+
+slotsAt-at : (t : List ℤ) (from n j : ℕ) → j < n → getD (slotsAt t from n) j empty ≡ slotAt t (from + j)
+unfolding slotsAt
+slotsAt-at t from zero j h = absurd (omega arith)
+slotsAt-at t from (suc n) zero h = rw add-zero
+slotsAt-at t from (suc n) (suc j) h = rw (add-suc, ← suc-add) (slotsAt-at t (suc from) n j (omega arith))
+
+slotsFrom-groups : (t : List ℤ) (from n : ℕ) → slotsFrom t from n ≡ flatMap slotHalves (slotsAt t from n)
+unfolding flatMap slotsAt slotHalves
+slotsFrom-groups t from zero = refl
+slotsFrom-groups t from (suc n) = rw (slotsFrom-groups t (suc from) n)
+
+slotsFrom-below : (t : List ℤ) (from n : ℕ) → EachBelow wordBase (slotsFrom t from n)
+slotsFrom-below t from n = rw (slotsFrom-groups t from n) (groups-below slotHalves wordBase (omega arith) slotHalves-below (slotsAt t from n))
+
+-- a half of a word of a slot stands at its place
+half-at : (t : List ℤ) (from m j n h : ℕ) → j < m → n < slotWords → h < 2
+    → getD (slotsFrom t from m) (j * 16 + (n * 2 + h)) 0 ≡ getD (halves (getD (wordsOf (slotAt t (from + j))) n (pos 0))) h 0
+unfolding slotHalves
+half-at t from m j n h a b c =
+    rw (
+      slotsFrom-groups t from m,
+      groups-at slotHalves 16 slotHalves-length (slotsAt t from m) j (n * 2 + h) empty 0 (rw slotsAt-length a) (omega arith),
+      slotsAt-at t from m j a,
+    )
+    (groups-at halves 2 halves-length (wordsOf (slotAt t (from + j))) n h (pos 0) 0 b c)
+
+-- ---- a save that is not refused
+module _ (t : List ℤ) (v : Version) (k : ℕ) (allowed : saveBlockRefusal t v k ≡ 0) where
+  -- the table is not refused
+  pub table-sound : badTable t ≡ false
+  unfolding saveBlockRefusal
+  table-sound = none _ tt allowed 1
+
+  -- there is such a block
+  within : FromTo (pos 1) (pos (blocks t)) (pos k)
+  unfolding saveBlockRefusal
+  within = from-to _ _ _ (not-no (none _ tt allowed 5))
+
+  -- the block is that of its slots' words
+  pub slots-saved : saveBlockBlock t v k ≡ blockOf (slotBlockWords t k)
+  unfolding saveBlockBlock
+  slots-saved = rw allowed
+
+  -- which are 127, each below 2^32
+  pub slot-words : BlockWords (slotBlockWords t k)
+  unfolding slotBlockWords
+  slot-words = record { size = refl; below = below }
+    where
+      below : EachBelow wordBase (k ∷ slotsFrom t (firstSlot k) blockSlots ++ replicate 14 0)
+      below zero = omega (arith, leb-true k (blocks t) (within .high), lengths t table-sound .few)
+      below (suc i) =
+          append-below wordBase (slotsFrom t (firstSlot k) blockSlots) (replicate 14 0) (slotsFrom-below t (firstSlot k) blockSlots)
+          (zeros-below wordBase (omega arith) 14) i
+
+  -- each read off its place
+  half-back : (j n h p : ℕ) → j < blockSlots → n < slotWords → h < 2 → p ≡ suc (j * 16 + (n * 2 + h))
+      → wordAt (blockOf (slotBlockWords t k)) p ≡ getD (halves (getD (wordsOf (slotAt t (firstSlot k + j))) n (pos 0))) h 0
+  unfolding slotBlockWords
+  half-back j n h p a b c e =
+      block-word (slotBlockWords t k) slot-words p (omega arith)
+      ∙ ap (λ i. getD (slotBlockWords t k) i 0) e
+      ∙ List·getD-append (slotsFrom t (firstSlot k) blockSlots) (replicate 14 0) 0 (j * 16 + (n * 2 + h)) (omega arith)
+      ∙ half-at t (firstSlot k) blockSlots j n h a b c
+
+  module _ (fitting : Fitting t) where
+    -- a word of a slot, from its two halves
+    long-back : (j n : ℕ) → j < blockSlots → n < slotWords
+        → longAt (blockOf (slotBlockWords t k)) (j * 16 + (n * 2 + 1)) ≡ getD (wordsOf (slotAt t (firstSlot k + j))) n (pos 0)
+    long-back j n a b =
+        let z : ℤ = getD (wordsOf (slotAt t (firstSlot k + j))) n (pos 0) in
+        let f : SFits w64 z = rw (word-at t (firstSlot k + j) n b) (fitting _) in
+        rw (
+          half-back j n 0 (j * 16 + (n * 2 + 1)) a b (omega arith) (omega arith),
+          half-back j n 1 (j * 16 + (n * 2 + 1) + 1) a b (omega arith) (omega arith),
+          number-digits wordBase 2 (ofZ w64 z) (omega arith) (ofZ-fits w64 z f .fits),
+        )
+        (plain z f)
+
+    -- slot j of the block
+    pub slot-back : (j : ℕ) → j < blockSlots → blockSlot (blockOf (slotBlockWords t k)) j ≡ slotAt t (firstSlot k + j)
+    unfolding blockSlot
+    slot-back j a =
+        slot-path (long-back j 0 a (omega arith)) (long-back j 1 a (omega arith)) (long-back j 2 a (omega arith)) (long-back j 3 a (omega arith))
+        (long-back j 4 a (omega arith)) (long-back j 5 a (omega arith)) (long-back j 6 a (omega arith)) (long-back j 7 a (omega arith))
