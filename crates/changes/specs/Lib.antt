@@ -1,6 +1,10 @@
 pub mod Tables
 pub mod TableLaws
 pub mod NetEffect
+pub mod Effects
+pub mod Whole
+pub mod Accepted
+pub mod Refused
 pub mod Running
 pub mod Insert
 pub mod Update

@@ -87,3 +87,8 @@ unfolding first
 stop [] m n h z = absurd (z (sym h))
 stop ((true, k) ∷ l) m n h z = h
 stop ((false, k) ∷ l) m n h z = stop l m n h z
+
+-- what follows a test may be replaced by what gives the same
+pub under : (t : Bool × ℕ) (l m : List (Bool × ℕ)) → first l ≡ first m → first (t ∷ l) ≡ first (t ∷ m)
+unfolding first
+under t l m e = rw e refl

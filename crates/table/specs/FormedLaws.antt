@@ -1,19 +1,21 @@
 -- The laws of well formed slots: one is empty, or used as `Used` says, and nothing else is well formed. Assumes nothing.
-use mathlib.Core.Path.{_≡_, refl}
+use mathlib.Core.Path.{_≡_, refl, ap}
 use mathlib.Core.Bool.{true, false, not, _||_, or-true}
 use mathlib.Core.List.{List}
 use Prim.Native.Nat.{ℕ, _<_}
-use lib.IntN.{ℤ, pos}
+use lib.IntN.{ℤ, pos, negsuc}
+use native.Mathlib.Omega.{arith}
+use borrow.Author.Tests.{leb-true, eqb-false}
 use Rattle.laws.specs.Tests.{all, all-at, by-test, clash, not-no}
-use Rattle.laws.specs.Order.{eqZ, eqZ-true, fromTo}
+use Rattle.laws.specs.Order.{eqZ, eqZ-true, fromTo, from-to}
 use Rattle.laws.specs.Lowest.{none-passes}
 use Rattle.version.specs.declared.Version.{Version}
 use Rattle.version.specs.Record.{lastRun}
 use Rattle.table.specs.declared.Slot.{Slot}
 use Rattle.table.specs.Slots.{empty, slots, slotAt}
 use Rattle.table.specs.SlotLaws.{slot-path}
-use Rattle.table.specs.Operations.{insertOperation, deleteOperation, live}
-use Rattle.table.specs.OperationLaws.{dead-empty}
+use Rattle.table.specs.Operations.{insertOperation, updateOperation, deleteOperation, live}
+use Rattle.table.specs.OperationLaws.{dead-empty, live-insert, live-update}
 use Rattle.table.specs.Totals.{lawful}
 use Rattle.table.specs.Formed.{allZeros, totalsLawful, oldZero, usedWell, wellFormed, broken, anyBroken}
 
@@ -73,3 +75,16 @@ live-used x v l w = formed-cases x v w (λ e. clash l (rw e dead-empty)) (λ u. 
 pub none-broken : (t : List ℤ) (v : Version) → anyBroken t v ≡ false → (k : ℕ) → k < slots t → wellFormed (slotAt t k) v ≡ true
 unfolding anyBroken
 none-broken t v h k l = not-no (none-passes (λ j. broken (slotAt t j) v) (slots t) h k l)
+
+-- ---- a used slot that is not live was deleted
+three : (z : ℤ) → fromTo insertOperation deleteOperation z ≡ true → eqZ z insertOperation ≡ false → eqZ z updateOperation ≡ false → z ≡ deleteOperation
+three (pos n) r a b =
+    let f = from-to insertOperation deleteOperation (pos n) r in
+    ap pos (omega (arith, leb-true 1 n (f .low), leb-true n 3 (f .high), eqb-false n 1 a, eqb-false n 2 b))
+three (negsuc n) r a b = clash r refl
+
+pub dead-deleted : (x : Slot) (v : Version) → Used x v → live x ≡ false → x .operation ≡ deleteOperation
+dead-deleted x v u d =
+    three (x .operation) (u .operation)
+    (by-test (eqZ (x .operation) insertOperation) (λ y. clash (live-insert x (eqZ-true _ _ y)) d) (λ n. n))
+    (by-test (eqZ (x .operation) updateOperation) (λ y. clash (live-update x (eqZ-true _ _ y)) d) (λ n. n))

@@ -1,11 +1,12 @@
--- The laws of free slots: the lowest is taken, and a free slot is empty, or was deleted by an older run. Assumes nothing.
-use mathlib.Core.Path.{_≡_}
-use mathlib.Core.Bool.{true}
+-- The laws of free slots: the lowest is taken; a free slot is empty, or was deleted by an older run; and one that is not free
+-- is neither. Assumes nothing.
+use mathlib.Core.Path.{_≡_, refl}
+use mathlib.Core.Bool.{true, false}
 use mathlib.Core.List.{List}
 use lib.IntN.{ℤ}
 use lib.Signed.{ltZ}
-use Rattle.laws.specs.Tests.{all-at, by-test}
-use Rattle.laws.specs.Order.{eqZ-true}
+use Rattle.laws.specs.Tests.{all-at, all-yes, by-test, clash}
+use Rattle.laws.specs.Order.{eqZ-true, eqZ-same}
 use Rattle.laws.specs.Lowest.{Lowest, lowest-is}
 use Rattle.version.specs.declared.Version.{Version}
 use Rattle.version.specs.Record.{runNumber}
@@ -13,7 +14,7 @@ use Rattle.table.specs.declared.Slot.{Slot}
 use Rattle.table.specs.Slots.{empty, slots, slotAt}
 use Rattle.table.specs.Operations.{deleteOperation}
 use Rattle.table.specs.Formed.{allZeros, wellFormed}
-use Rattle.table.specs.FormedLaws.{zeros-empty}
+use Rattle.table.specs.FormedLaws.{Used, zeros-empty, empty-zeros, formed-cases}
 use Rattle.table.specs.Free.{longDeleted, free, freeSlot}
 
 pub freeSlot-is : (t : List ℤ) (v : Version) → Lowest (λ k. free (slotAt t k) v) (slots t) (freeSlot t v)
@@ -32,3 +33,22 @@ free-cases x v h f g =
     by-test (allZeros x) (λ z. f (zeros-empty x z))
     (λ n. let d = rw n at h in
     g (record { operation = eqZ-true _ _ (all-at _ 0 d); older = all-at _ 1 d; formed = all-at _ 2 d }))
+
+-- ---- a well formed slot that is not free is used, and if it is deleted then not by an older run
+pub record Busy (x : Slot) (v : Version) : Type 0 where
+  pub used : Used x v
+  pub not-older : x .operation ≡ deleteOperation → ltZ (x .run) (runNumber v) ≡ false
+
+pub busy : (x : Slot) (v : Version) → wellFormed x v ≡ true → free x v ≡ false → Busy x v
+unfolding free longDeleted
+busy x v w f =
+    formed-cases x v w
+    (λ e. clash (rw (e, empty-zeros) refl) f)
+    (λ u. record {
+      used = u;
+      not-older = λ d. by-test (ltZ (x .run) (runNumber v))
+          (λ y. by-test (allZeros x)
+          (λ z. clash (rw z refl) f)
+          (λ n. clash (all-yes _ (eqZ-same d, (y, (w, tt)))) (rw n at f)))
+          (λ n. n);
+    })

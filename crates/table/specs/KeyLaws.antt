@@ -1,14 +1,15 @@
 -- The laws of a key's slot: it is the lowest that has the key; an absent key shows the empty slot; a live key has a slot.
 -- Assumes nothing.
-use mathlib.Core.Path.{_≡_}
-use mathlib.Core.Bool.{true, false}
+use mathlib.Core.Path.{_≡_, refl, ap}
+use mathlib.Core.Bool.{true, false, not}
 use mathlib.Core.List.{List}
-use Prim.Native.Nat.{_≤_, _<_}
+use Prim.Native.Nat.{ℕ, _≤_, _<_}
+use native.Mathlib.Nat.{lt-of-lt-of-le}
 use lib.Dec.{ltb}
 use borrow.Author.Tests.{ltb-true, ltb-false}
 use lib.IntN.{ℤ}
-use Rattle.laws.specs.Tests.{all-at, by-test, clash, not-yes}
-use Rattle.laws.specs.Order.{eqZ, eqZ-true}
+use Rattle.laws.specs.Tests.{all-at, by-test, clash, not-yes, all-yes, all-no}
+use Rattle.laws.specs.Order.{eqZ, eqZ-true, eqZ-same}
 use Rattle.laws.specs.Lowest.{Lowest, lowest-is}
 use Rattle.table.specs.declared.Slot.{Slot}
 use Rattle.table.specs.Slots.{badTable, slots, slotAt, empty}
@@ -32,7 +33,22 @@ unfolding hasKey
 has-key x one two h =
     record { used = not-yes (all-at _ 0 h); key1 = eqZ-true _ _ (all-at _ 1 h); key2 = eqZ-true _ _ (all-at _ 2 h) }
 
--- a key without a slot shows the empty one
+pub keyed-has : {x : Slot} {one two : ℤ} → Keyed x one two → hasKey x one two ≡ true
+unfolding hasKey
+keyed-has k = all-yes _ (ap not (k .used), (eqZ-same (k .key1), (eqZ-same (k .key2), tt)))
+
+-- the empty slot has no key
+pub empty-keyless : (one two : ℤ) → hasKey empty one two ≡ false
+unfolding hasKey
+empty-keyless one two = all-no _ 0 refl
+
+-- a key without a slot has none anywhere, and shows the empty one
+pub absent-nowhere : (t : List ℤ) (one two : ℤ) → badTable t ≡ false → slots t ≤ keySlot t one two → (j : ℕ) → hasKey (slotAt t j) one two ≡ false
+absent-nowhere t one two b l j =
+    by-test (ltb j (slots t))
+    (λ y. keySlot-is t one two .below j (lt-of-lt-of-le (ltb-true _ _ y) l))
+    (λ n. rw (slotAt-past t j b (ltb-false _ _ n)) (empty-keyless one two))
+
 pub absent-empty : (t : List ℤ) (one two : ℤ) → badTable t ≡ false → slots t ≤ keySlot t one two → keyed t one two ≡ empty
 absent-empty t one two b l = slotAt-past t (keySlot t one two) b l
 

@@ -1,0 +1,149 @@
+-- What an accepted change of a whole table leaves, one theorem a call: its slot is written to the effect that the call says, and
+-- no other slot has the key. Each goes by the cell that the slot's run and operation choose. Assumes nothing.
+use mathlib.Core.Path.{_≡_, refl, sym, _∙_}
+use mathlib.Core.Bool.{true, false}
+use mathlib.Core.List.{List}
+use lib.Dec.{ltb}
+use lib.IntN.{ℤ, pos}
+use lib.Signed.{ltZ, leZ}
+use borrow.Author.Tests.{ltb-true, ltb-false}
+use Rattle.laws.specs.Tests.{by-test, clash, not-no}
+use Rattle.laws.specs.First.{none}
+use Rattle.laws.specs.Order.{next-ltZ, leZ-trans}
+use Rattle.version.specs.declared.Version.{Version}
+use Rattle.version.specs.Record.{badRecord, runNumber}
+use Rattle.version.specs.RecordLaws.{sound}
+use Rattle.table.specs.declared.Slot.{Slot}
+use Rattle.table.specs.Slots.{slots, slotAt, empty}
+use Rattle.table.specs.Operations.{deleteOperation, live}
+use Rattle.table.specs.OperationLaws.{live-cases}
+use Rattle.table.specs.TotalLaws.{Given, given}
+use Rattle.table.specs.Formed.{wellFormed}
+use Rattle.table.specs.FormedLaws.{Used, live-used, formed-cases, dead-deleted}
+use Rattle.table.specs.Keys.{hasKey, keySlot, keyed}
+use Rattle.table.specs.KeyLaws.{Keyed, has-key, keySlot-is, empty-keyless, absent-empty, absent-nowhere, live-placed}
+use Rattle.table.specs.Free.{free, freeSlot}
+use Rattle.table.specs.FreeLaws.{freeSlot-is, free-cases}
+use Rattle.reads.specs.declared.Seen.the-variants.{Row, NoRow}
+use Rattle.reads.specs.Table1.{shown}
+use Rattle.reads.specs.Table1Laws.{shown-deleted, shown-empty}
+use Rattle.changes.specs.Tables.{inserted, updated, deleted}
+use Rattle.changes.specs.TableLaws.{inserted-new, inserted-older, inserted-same, updated-older, updated-same, deleted-older, deleted-insert, deleted-update}
+use Rattle.changes.specs.Effects.{Effect, run-within, save-effect, correct-effect, remove-effect, erase-effect, mark-effect, restore-effect, insert-effect}
+use Rattle.changes.specs.Whole.{Whole, Wrote, only}
+use Rattle.changes.specs.Insert.{insertSlot, insertRefusal, insertWords}
+use Rattle.changes.specs.Update.{updateRefusal, updateWords}
+use Rattle.changes.specs.Delete.{deleteRefusal, deleteWords}
+
+module _ (v : Version) (known : badRecord v ≡ false) (active : v .active ≡ true) where
+  -- an older run is one that is at most current
+  older : (x : Slot) → ltZ (x .run) (runNumber v) ≡ leZ (x .run) (v .current)
+  older x = next-ltZ (x .run) (v .current) (sound known .low)
+
+  -- a free slot shows nothing at the two versions of a run
+  pub free-unseen : (x : Slot) → free x v ≡ true → (shown (v .current) x ≡ NoRow) × (shown (runNumber v) x ≡ NoRow)
+  free-unseen x f =
+      free-cases x v f
+      (λ e. rw e (shown-empty (v .current), shown-empty (runNumber v)))
+      (λ d. formed-cases x v (d .formed)
+      (λ e. rw e (shown-empty (v .current), shown-empty (runNumber v)))
+      (λ u. (
+        shown-deleted (v .current) x (sym (older x) ∙ d .older) (d .operation),
+        shown-deleted (runNumber v) x (run-within v known active u) (d .operation),
+      )))
+
+  -- what an update makes of a live slot that has the key
+  update-effect : (x : Slot) (one two a b : ℤ) → Used x v → Keyed x one two → live x ≡ true → Given a b
+      → Effect v x (updated (runNumber v) x a b) one two (Row one two a b)
+  update-effect x one two a b u k l g =
+      by-test (leZ (x .run) (v .current))
+      (λ y. rw (updated-older (runNumber v) x a b (older x ∙ y) l) (save-effect v known active x one two u k a b g l y))
+      (λ n. rw (updated-same (runNumber v) x a b (older x ∙ n) l) (correct-effect v known active x one two u k a b g l n))
+
+  delete-effect : (x : Slot) (one two : ℤ) → Used x v → Keyed x one two → live x ≡ true
+      → Effect v x (deleted (runNumber v) x) one two NoRow
+  delete-effect x one two u k l =
+      by-test (leZ (x .run) (v .current))
+      (λ y. rw (deleted-older (runNumber v) x (older x ∙ y) l) (remove-effect v known active x one two u k y l))
+      (λ n. live-cases x l
+      (λ e. rw (deleted-insert (runNumber v) x (older x ∙ n) e) (erase-effect v known active x one two u k n e))
+      (λ e. rw (deleted-update (runNumber v) x (older x ∙ n) e) (mark-effect v known active x one two u k n e)))
+
+  -- what an insert makes of a deleted slot that has the key
+  reinsert-effect : (x : Slot) (one two a b : ℤ) → Used x v → Keyed x one two → x .operation ≡ deleteOperation → Given a b
+      → Effect v x (inserted (runNumber v) x one two a b) one two (Row one two a b)
+  reinsert-effect x one two a b u k d g =
+      by-test (leZ (x .run) (v .current))
+      (λ y. rw (inserted-older (runNumber v) x one two a b (older x ∙ y) d)
+      (insert-effect v known active x one two a b g (shown-deleted (v .current) x y d) (shown-deleted (runNumber v) x (run-within v known active u) d)))
+      (λ n. rw (inserted-same (runNumber v) x one two a b (older x ∙ n) d) (restore-effect v known active x one two u k a b g n d))
+
+  -- and of a free slot, where the key has none
+  first-effect : (x : Slot) (one two a b : ℤ) → free x v ≡ true → Given a b
+      → Effect v x (inserted (runNumber v) empty one two a b) one two (Row one two a b)
+  first-effect x one two a b f g =
+      rw (inserted-new (runNumber v) one two a b (older empty ∙ leZ-trans (pos 0) (pos 1) (v .current) refl (sound known .low)))
+      (insert-effect v known active x one two a b g (free-unseen x f .0) (free-unseen x f .1))
+
+-- ---- update
+pub update-wrote : (t : List ℤ) (v : Version) (one two a b : ℤ) → Whole t v → updateRefusal t v one two a b ≡ 0
+    → Wrote t v one two (Row one two a b) (keySlot t one two) (updateWords t v one two a b)
+unfolding updateRefusal updateWords
+update-wrote t v one two a b whole h =
+    let no = none _ tt h in
+    let l = not-no (no 11) in
+    let place = live-placed t one two (no 1) l in
+    let has = keySlot-is t one two .passes place in
+    record {
+      slot = updated (runNumber v) (keyed t one two) a b;
+      place = place;
+      words = rw h refl;
+      alone = only t (whole .distinct) (keySlot t one two) one two has;
+      effect = update-effect v (no 2) (not-no (no 8)) (keyed t one two) one two a b (live-used _ v l (not-no (no 6))) (has-key _ one two has) l (given a b (no 13));
+    }
+
+-- ---- delete
+pub delete-wrote : (t : List ℤ) (v : Version) (one two : ℤ) → Whole t v → deleteRefusal t v one two ≡ 0
+    → Wrote t v one two NoRow (keySlot t one two) (deleteWords t v one two)
+unfolding deleteRefusal deleteWords
+delete-wrote t v one two whole h =
+    let no = none _ tt h in
+    let l = not-no (no 11) in
+    let place = live-placed t one two (no 1) l in
+    let has = keySlot-is t one two .passes place in
+    record {
+      slot = deleted (runNumber v) (keyed t one two);
+      place = place;
+      words = rw h refl;
+      alone = only t (whole .distinct) (keySlot t one two) one two has;
+      effect = delete-effect v (no 2) (not-no (no 8)) (keyed t one two) one two (live-used _ v l (not-no (no 6))) (has-key _ one two has) l;
+    }
+
+-- ---- insert
+-- a slot that has a key and is well formed is used
+keyed-used : (x : Slot) (v : Version) (one two : ℤ) → wellFormed x v ≡ true → hasKey x one two ≡ true → Used x v
+keyed-used x v one two w h = formed-cases x v w (λ e. clash h (rw e (empty-keyless one two))) (λ u. u)
+
+pub insert-wrote : (t : List ℤ) (v : Version) (one two a b : ℤ) → Whole t v → insertRefusal t v one two a b ≡ 0
+    → Wrote t v one two (Row one two a b) (insertSlot t v one two) (insertWords t v one two a b)
+unfolding insertRefusal insertWords
+insert-wrote t v one two a b whole h =
+    let no = none _ tt h in
+    let g = given a b (no 13) in
+    let x = keyed t one two in
+    let k = keySlot t one two in
+    let room : ltb (insertSlot t v one two) (slots t) ≡ true = not-no (no 12) in
+    record {
+      slot = inserted (runNumber v) x one two a b;
+      place = ltb-true _ _ room;
+      words = rw h refl;
+      alone = by-test (ltb k (slots t))
+          (λ y. rw y (only t (whole .distinct) k one two (keySlot-is t one two .passes (ltb-true _ _ y))))
+          (λ n. λ j ne. absent-nowhere t one two (no 1) (ltb-false _ _ n) j);
+      effect = by-test (ltb k (slots t))
+          (λ y. let has = keySlot-is t one two .passes (ltb-true _ _ y) in
+          let u = keyed-used x v one two (not-no (no 6)) has in
+          rw y (reinsert-effect v (no 2) (not-no (no 8)) x one two a b u (has-key x one two has) (dead-deleted x v u (no 10)) g))
+          (λ n. let taken = freeSlot-is t v .passes (ltb-true _ _ (rw n at room)) in
+          rw (n, absent-empty t one two (no 1) (ltb-false _ _ n)) (first-effect v (no 2) (not-no (no 8)) (slotAt t (freeSlot t v)) one two a b taken g));
+    }

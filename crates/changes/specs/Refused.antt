@@ -1,0 +1,83 @@
+-- When a change of a whole table is refused during a run, and by which number: the tests of the shape, the record, the run and
+-- the key's slot have failed, and what is left of each list are the tests of the totals, the key and the room. And what refusal
+-- 12 says: the key has no slot, and every slot shows a row at one of the run's two versions. Assumes nothing.
+use mathlib.Core.Path.{_≡_, refl, sym, ap, _∙_}
+use mathlib.Core.Bool.{true, false, not}
+use mathlib.Core.Logic.{_⊎_, inl, inr}
+use mathlib.Core.List.{List, [], _∷_}
+use Prim.Native.Nat.{ℕ, _<_, _≤_}
+use lib.Dec.{ltb}
+use lib.IntN.{ℤ}
+use borrow.Author.Tests.{ltb-true, ltb-false, le-ltb}
+use native.Mathlib.Nat.{lt-of-lt-of-le}
+use Rattle.laws.specs.Tests.{by-test, clash, not-yes}
+use Rattle.laws.specs.First.{first, skip, under}
+use Rattle.laws.specs.Order.{next-ltZ}
+use Rattle.version.specs.declared.Version.{Version}
+use Rattle.version.specs.Record.{badRecord, runNumber}
+use Rattle.version.specs.RecordLaws.{sound}
+use Rattle.table.specs.declared.Slot.{Slot}
+use Rattle.table.specs.Slots.{slots, slotAt}
+use Rattle.table.specs.Operations.{live}
+use Rattle.table.specs.Totals.{unlawful}
+use Rattle.table.specs.Formed.{wellFormed}
+use Rattle.table.specs.FormedLaws.{dead-deleted}
+use Rattle.table.specs.Keys.{keySlot, keyLive}
+use Rattle.table.specs.Free.{free, freeSlot}
+use Rattle.table.specs.FreeLaws.{freeSlot-is, busy}
+use Rattle.reads.specs.Table1.{shown, currentRow, oldRow}
+use Rattle.reads.specs.Table1Laws.{shown-current, shown-removed}
+use Rattle.changes.specs.Effects.{run-within}
+use Rattle.changes.specs.Whole.{Whole}
+use Rattle.changes.specs.Insert.{insertSlot, noSlot, insertRefusal}
+use Rattle.changes.specs.Update.{notLive, updateRefusal}
+use Rattle.changes.specs.Delete.{deleteRefusal}
+
+module _ (t : List ℤ) (v : Version) (whole : Whole t v) (known : badRecord v ≡ false) (active : v .active ≡ true) where
+  pub insert-refused : (one two a b : ℤ)
+      → insertRefusal t v one two a b ≡ first ((unlawful a b, 13) ∷ (keyLive t one two, 10) ∷ (noSlot t v one two, 12) ∷ [])
+  unfolding insertRefusal
+  insert-refused one two a b =
+      skip 1 _ (whole .shape) ∙ skip 2 _ known ∙ skip 8 _ (ap not active) ∙ under _ _ _ (skip 6 _ (ap not (whole .formed (keySlot t one two))))
+
+  pub update-refused : (one two a b : ℤ) → updateRefusal t v one two a b ≡ first ((unlawful a b, 13) ∷ (notLive t one two, 11) ∷ [])
+  unfolding updateRefusal
+  update-refused one two a b =
+      skip 1 _ (whole .shape) ∙ skip 2 _ known ∙ skip 8 _ (ap not active) ∙ under _ _ _ (skip 6 _ (ap not (whole .formed (keySlot t one two))))
+
+  pub delete-refused : (one two : ℤ) → deleteRefusal t v one two ≡ first ((notLive t one two, 11) ∷ [])
+  unfolding deleteRefusal
+  delete-refused one two =
+      skip 1 _ (whole .shape) ∙ skip 2 _ known ∙ skip 8 _ (ap not active) ∙ skip 6 _ (ap not (whole .formed (keySlot t one two)))
+
+  -- ---- no slot to take: the key has none, and none is free
+  pub record Full (one two : ℤ) : Type 0 where
+    pub absent : slots t ≤ keySlot t one two
+    pub taken : (j : ℕ) → j < slots t → free (slotAt t j) v ≡ false
+
+  pub full : (one two : ℤ) → noSlot t v one two ≡ true → Full one two
+  full one two h =
+      let none : ltb (insertSlot t v one two) (slots t) ≡ false = not-yes h in
+      by-test (ltb (keySlot t one two) (slots t))
+      (λ y. clash h (rw (y, y) refl))
+      (λ n. record {
+        absent = ltb-false _ _ n;
+        taken = λ j l. freeSlot-is t v .below j (lt-of-lt-of-le l (ltb-false _ _ (rw n at none)));
+      })
+
+  pub not-full : (one two : ℤ) → Full one two → noSlot t v one two ≡ true
+  not-full one two f =
+      rw (le-ltb (keySlot t one two) (slots t) (f .absent))
+      (by-test (ltb (freeSlot t v) (slots t))
+      (λ y. clash (freeSlot-is t v .passes (ltb-true _ _ y)) (f .taken _ (ltb-true _ _ y)))
+      (λ n. ap not n))
+
+  -- ---- a slot that is not free shows a row: its own at the running version, or its old one at current
+  pub busy-seen : (x : Slot) → wellFormed x v ≡ true → free x v ≡ false
+      → (shown (runNumber v) x ≡ currentRow x) ⊎ (shown (v .current) x ≡ oldRow x)
+  busy-seen x w f =
+      let b = busy x v w f in
+      by-test (live x)
+      (λ y. inl (shown-current (runNumber v) x (run-within v known active (b .used)) y))
+      (λ n. let d = dead-deleted x v (b .used) n in
+      inr (shown-removed (v .current) x (sym (next-ltZ (x .run) (v .current) (sound known .low)) ∙ b .not-older d) d))
