@@ -1,0 +1,3 @@
+pub mod Numerals
+pub mod Commands
+pub mod Replies
