@@ -1,14 +1,14 @@
 -- The laws of a key's slot: it is the lowest that has the key; an absent key shows the empty slot; a live key has a slot.
 -- Assumes nothing.
 use mathlib.Core.Path.{_≡_, refl, ap}
-use mathlib.Core.Bool.{true, false, not}
+use mathlib.Core.Bool.{true, false, not, _&&_}
 use mathlib.Core.List.{List}
 use Prim.Native.Nat.{ℕ, _≤_, _<_}
 use native.Mathlib.Nat.{lt-of-lt-of-le}
 use lib.Dec.{ltb}
 use borrow.Author.Tests.{ltb-true, ltb-false}
 use lib.IntN.{ℤ}
-use Rattle.laws.specs.Tests.{all-at, by-test, clash, not-yes, all-yes, all-no}
+use Rattle.laws.specs.Tests.{all, all-at, by-test, clash, not-yes, all-yes, all-no}
 use Rattle.laws.specs.Order.{eqZ, eqZ-true, eqZ-same}
 use Rattle.laws.specs.Lowest.{Lowest, lowest-is}
 use Rattle.table.specs.declared.Slot.{Slot}
@@ -36,6 +36,11 @@ has-key x one two h =
 pub keyed-has : {x : Slot} {one two : ℤ} → Keyed x one two → hasKey x one two ≡ true
 unfolding hasKey
 keyed-has k = all-yes _ (ap not (k .used), (eqZ-same (k .key1), (eqZ-same (k .key2), tt)))
+
+-- of a used slot only the key words are asked
+pub key-words : (x : Slot) (one two : ℤ) → eqZ (x .operation) emptyOperation ≡ false → hasKey x one two ≡ eqZ (x .key1) one && eqZ (x .key2) two
+unfolding hasKey all
+key-words x one two u = rw u refl
 
 -- the empty slot has no key
 pub empty-keyless : (one two : ℤ) → hasKey empty one two ≡ false

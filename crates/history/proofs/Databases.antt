@@ -1,0 +1,174 @@
+-- Databases in another order: a permutation of rows holds the same keys, and where no key stands twice it finds the same rows,
+-- rolls up to the same sums, and loses the same row. Each by recursion on the permutation; a step on one or two rows goes by
+-- the tests on them alone. Assumes nothing.
+use mathlib.Core.Path.{_≡_, refl, sym, ap, ap₂, _∙_, subst}
+use mathlib.Core.Bool.{Bool, true, false, cond, _&&_, _||_}
+use mathlib.Core.List.{List, [], _∷_, _++_, map, List·Permᴰ, Permᴰ·refl}
+use mathlib.Core.List as L
+use Prim.Native.Nat.{ℕ, suc}
+use lib.IntN.{ℤ, _+ℤ_, +ℤ-comm, +ℤ-assoc}
+use lib.ListN.{length}
+use Rattle.laws.specs.Tests.{by-test, clash}
+use Rattle.laws.specs.Order.{eqZ, eqZ-true, eqZ-same}
+use Rattle.reads.specs.declared.Seen.{Seen}
+use Rattle.reads.specs.declared.Seen.the-variants as seen
+use Rattle.reads.specs.RollUp.{Tally, tally, counted}
+use Rattle.history.specs.Databases.{Row, Database, isKey, holds, without, found, asSeen}
+
+-- ---- tests
+pub or-false : (a b : Bool) → a || b ≡ false → (a ≡ false) × (b ≡ false)
+or-false true b e = clash refl e
+or-false false b e = (refl, e)
+
+or-swap : (a b c : Bool) → a || (b || c) ≡ b || (a || c)
+or-swap true true c = refl
+or-swap true false c = refl
+or-swap false b c = refl
+
+or-assoc : (a b c : Bool) → a || (b || c) ≡ (a || b) || c
+or-assoc true b c = refl
+or-assoc false b c = refl
+
+and-both : (a b : Bool) → a && b ≡ true → (a ≡ true) × (b ≡ true)
+and-both true b e = (refl, e)
+and-both false b e = clash e refl
+
+-- the key of a row
+pub key-of : (p q : ℤ) (r : Row) → isKey p q r ≡ true → (r .key1 ≡ p) × (r .key2 ≡ q)
+key-of p q r h =
+    let x = and-both (eqZ (r .key1) p) (eqZ (r .key2) q) h in
+    (eqZ-true (r .key1) p (x .0), eqZ-true (r .key2) q (x .1))
+
+pub is-key : (p q : ℤ) (r : Row) → r .key1 ≡ p → r .key2 ≡ q → isKey p q r ≡ true
+is-key p q r x y = ap₂ _&&_ (eqZ-same {a = r .key1} {b = p} x) (eqZ-same {a = r .key2} {b = q} y)
+
+-- two rows with one key: each has the other's
+pub same-key : (p q : ℤ) (a b : Row) → isKey p q a ≡ true → isKey p q b ≡ true → isKey (a .key1) (a .key2) b ≡ true
+same-key p q a b x y =
+    let u = key-of p q a x in
+    let w = key-of p q b y in
+    is-key (a .key1) (a .key2) b (w .0 ∙ sym (u .0)) (w .1 ∙ sym (u .1))
+
+-- ---- the same keys
+pub holds-perm : (p q : ℤ) {d e : Database} → List·Permᴰ d e → holds p q d ≡ holds p q e
+holds-perm p q L.List·Permᴰ·nil = refl
+holds-perm p q (L.List·Permᴰ·cons same rest) = ap₂ (λ r b. isKey p q r || b) same (holds-perm p q rest)
+holds-perm p q (L.List·Permᴰ·swap {a = a} {b = b} {l = l} e f) =
+    or-swap (isKey p q a) (isKey p q b) (holds p q l) ∙ ap₂ (λ x y. isKey p q x || (isKey p q y || holds p q l)) f e
+holds-perm p q (L.List·Permᴰ·trans x y) = holds-perm p q x ∙ holds-perm p q y
+
+pub holds-append : (p q : ℤ) (d e : Database) → holds p q (d ++ e) ≡ holds p q d || holds p q e
+holds-append p q [] e = refl
+holds-append p q (r ∷ d) e = ap (λ b. isKey p q r || b) (holds-append p q d e) ∙ or-assoc (isKey p q r) (holds p q d) (holds p q e)
+
+-- ---- the row of a key is gone
+pub without-absent : (p q : ℤ) (d : Database) → holds p q d ≡ false → without p q d ≡ d
+without-absent p q [] h = refl
+without-absent p q (r ∷ d) h =
+    let n = or-false (isKey p q r) (holds p q d) h in
+    ap₂ (λ b l. cond b l (r ∷ l)) (n .0) (without-absent p q d (n .1))
+
+cond-append : (b : Bool) (r : Row) (d e : Database) → cond b (d ++ e) (r ∷ d ++ e) ≡ cond b d (r ∷ d) ++ e
+cond-append true r d e = refl
+cond-append false r d e = refl
+
+pub without-append : (p q : ℤ) (d e : Database) → without p q (d ++ e) ≡ without p q d ++ without p q e
+without-append p q [] e = refl
+without-append p q (r ∷ d) e =
+    ap (λ l. cond (isKey p q r) l (r ∷ l)) (without-append p q d e) ∙ cond-append (isKey p q r) r (without p q d) (without p q e)
+
+cond-perm : (t : Bool) (r : Row) {d e : Database} → List·Permᴰ d e → List·Permᴰ (cond t d (r ∷ d)) (cond t e (r ∷ e))
+cond-perm true r x = x
+cond-perm false r x = L.List·Permᴰ·cons refl x
+
+cond-swap : (t u : Bool) (a b : Row) (d : Database)
+    → List·Permᴰ (cond t (cond u d (b ∷ d)) (a ∷ cond u d (b ∷ d))) (cond u (cond t d (a ∷ d)) (b ∷ cond t d (a ∷ d)))
+cond-swap true u a b d = Permᴰ·refl _
+cond-swap false true a b d = Permᴰ·refl _
+cond-swap false false a b d = L.List·Permᴰ·swap refl refl
+
+pub without-perm : (p q : ℤ) {d e : Database} → List·Permᴰ d e → List·Permᴰ (without p q d) (without p q e)
+without-perm p q L.List·Permᴰ·nil = L.List·Permᴰ·nil
+without-perm p q (L.List·Permᴰ·cons {a = a} {l₁ = d} {l₂ = e} same rest) =
+    subst (λ r. List·Permᴰ (without p q (a ∷ d)) (without p q (r ∷ e))) same (cond-perm (isKey p q a) a (without-perm p q rest))
+without-perm p q (L.List·Permᴰ·swap {a = a} {b = b} {l = l} e f) =
+    subst (λ d. List·Permᴰ (without p q (a ∷ b ∷ l)) (without p q d)) (ap₂ (λ x y. x ∷ y ∷ l) f e)
+    (cond-swap (isKey p q a) (isKey p q b) a b (without p q l))
+without-perm p q (L.List·Permᴰ·trans x y) = L.List·Permᴰ·trans (without-perm p q x) (without-perm p q y)
+
+-- ---- no key twice
+abbrev pub NoRepeat : Database → Type 0
+NoRepeat [] = Unit {0}
+NoRepeat (r ∷ d) = (holds (r .key1) (r .key2) d ≡ false) × NoRepeat d
+
+-- the key of a row that is no other's is not the other's either
+apart : (a b : Row) → isKey (a .key1) (a .key2) b ≡ false → isKey (b .key1) (b .key2) a ≡ false
+apart a b n =
+    by-test (isKey (b .key1) (b .key2) a)
+    (λ y. clash (same-key (b .key1) (b .key2) a b y (is-key (b .key1) (b .key2) b refl refl)) n) (λ m. m)
+
+pub norepeat-perm : {d e : Database} → List·Permᴰ d e → NoRepeat d → NoRepeat e
+norepeat-perm L.List·Permᴰ·nil n = n
+norepeat-perm (L.List·Permᴰ·cons {a = a} {l₂ = e} same rest) n =
+    subst (λ r. NoRepeat (r ∷ e)) same (sym (holds-perm _ _ rest) ∙ n .0, norepeat-perm rest (n .1))
+norepeat-perm (L.List·Permᴰ·swap {a = a} {b = b} {l = l} e f) n =
+    let m = or-false (isKey (a .key1) (a .key2) b) (holds (a .key1) (a .key2) l) (n .0) in
+    subst NoRepeat (ap₂ (λ x y. x ∷ y ∷ l) f e)
+    (ap₂ _||_ (apart a b (m .0)) (n .1 .0), (m .1, n .1 .1))
+norepeat-perm (L.List·Permᴰ·trans x y) n = norepeat-perm y (norepeat-perm x n)
+
+-- ---- the same row is found
+pub found-absent : (p q : ℤ) (d : Database) → holds p q d ≡ false → found p q d ≡ seen.NoRow
+found-absent p q [] h = refl
+found-absent p q (r ∷ d) h =
+    let n = or-false (isKey p q r) (holds p q d) h in
+    ap₂ (λ b x. cond b (asSeen r) x) (n .0) (found-absent p q d (n .1))
+
+-- two rows in the other order, where not both have the key
+found-swap : (t u : Bool) (a b : Row) (x : Seen) → (t ≡ true → u ≡ true → ⊥)
+    → cond t (asSeen a) (cond u (asSeen b) x) ≡ cond u (asSeen b) (cond t (asSeen a) x)
+found-swap true true a b x n = absurd (n refl refl)
+found-swap true false a b x n = refl
+found-swap false u a b x n = refl
+
+pub found-perm : (p q : ℤ) {d e : Database} → List·Permᴰ d e → NoRepeat d → found p q d ≡ found p q e
+found-perm p q L.List·Permᴰ·nil n = refl
+found-perm p q (L.List·Permᴰ·cons same rest) n = ap₂ (λ r x. cond (isKey p q r) (asSeen r) x) same (found-perm p q rest (n .1))
+found-perm p q (L.List·Permᴰ·swap {a = a} {b = b} {l = l} e f) n =
+    let m = or-false (isKey (a .key1) (a .key2) b) (holds (a .key1) (a .key2) l) (n .0) in
+    found-swap (isKey p q a) (isKey p q b) a b (found p q l) (λ x y. clash (same-key p q a b x y) (m .0))
+    ∙ ap (found p q) (ap₂ (λ x y. x ∷ y ∷ l) f e)
+found-perm p q (L.List·Permᴰ·trans x y) n = found-perm p q x n ∙ found-perm p q y (norepeat-perm x n)
+
+-- ---- the same sums
+counted-swap : (a b c d : ℤ) (n : Tally) → counted a b (counted c d n) ≡ counted c d (counted a b n)
+counted-swap a b c d n i = record {
+  count = suc (suc (n .count));
+  first = swap (n .first) c a i;
+  second = swap (n .second) d b i;
+}
+  where
+    swap : (x y z : ℤ) → (x +ℤ y) +ℤ z ≡ (x +ℤ z) +ℤ y
+    swap x y z = +ℤ-assoc x y z ∙ ap (λ s. x +ℤ s) (+ℤ-comm y z) ∙ sym (+ℤ-assoc x z y)
+
+tally-swap : (t u : Bool) (a b c d : ℤ) (n : Tally)
+    → cond t (counted a b (cond u (counted c d n) n)) (cond u (counted c d n) n) ≡ cond u (counted c d (cond t (counted a b n) n)) (cond t (counted a b n) n)
+tally-swap true true a b c d n = counted-swap a b c d n
+tally-swap true false a b c d n = refl
+tally-swap false u a b c d n = refl
+
+pub tally-perm : (one : ℤ) {d e : Database} → List·Permᴰ d e → tally one (map asSeen d) ≡ tally one (map asSeen e)
+tally-perm one L.List·Permᴰ·nil = refl
+tally-perm one (L.List·Permᴰ·cons same rest) =
+    ap₂ (λ r n. cond (eqZ (r .key1) one) (counted (r .first) (r .second) n) n) same (tally-perm one rest)
+tally-perm one (L.List·Permᴰ·swap {a = a} {b = b} {l = l} e f) =
+    tally-swap (eqZ (a .key1) one) (eqZ (b .key1) one) (a .first) (a .second) (b .first) (b .second) (tally one (map asSeen l))
+    ∙ ap (λ d. tally one (map asSeen d)) (ap₂ (λ x y. x ∷ y ∷ l) f e)
+tally-perm one (L.List·Permᴰ·trans x y) = tally-perm one x ∙ tally-perm one y
+
+-- ---- the same count
+pub length-perm : {d e : Database} → List·Permᴰ d e → length d ≡ length e
+length-perm L.List·Permᴰ·nil = refl
+length-perm (L.List·Permᴰ·cons same rest) = ap suc (length-perm rest)
+length-perm (L.List·Permᴰ·swap e f) = refl
+length-perm (L.List·Permᴰ·trans x y) = length-perm x ∙ length-perm y

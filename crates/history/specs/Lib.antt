@@ -1,0 +1,4 @@
+pub mod Databases
+pub mod Followed
+pub mod Histories
+pub mod Demand

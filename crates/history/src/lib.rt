@@ -1,0 +1,1 @@
+// No code: demand 3, as theorems about the definitions of the calls.
