@@ -1,2 +1,3 @@
 pub mod Databases
 pub mod Rows
+pub mod Invariant

@@ -36,7 +36,7 @@ restAt t s k zero = []
 restAt t s k (suc n) = cond (eqb n k) (restAt t s k n) (rowsOf (shown s (slotAt t n)) ++ restAt t s k n)
 
 -- ---- one slot first
-append-perm : (a : Database) {d e : Database} → List·Permᴰ d e → List·Permᴰ (a ++ d) (a ++ e)
+pub append-perm : (a : Database) {d e : Database} → List·Permᴰ d e → List·Permᴰ (a ++ d) (a ++ e)
 append-perm [] x = x
 append-perm (r ∷ a) x = L.List·Permᴰ·cons refl (append-perm a x)
 
@@ -73,9 +73,9 @@ rest-same t u s k (suc n) same =
     (sym y) (rest-same t u s k n same))
     (λ m. ap₂ (λ x l. cond (eqb n k) l (rowsOf (shown s x) ++ l)) (same n (eqb-false n k m)) (rest-same t u s k n same))
 
-pub rows-same : (t u : List ℤ) (s : ℤ) (n : ℕ) → ((j : ℕ) → shown s (slotAt u j) ≡ shown s (slotAt t j)) → rowsAt u s n ≡ rowsAt t s n
-rows-same t u s zero same = refl
-rows-same t u s (suc n) same = ap₂ (λ r l. rowsOf r ++ l) (same n) (rows-same t u s n same)
+pub rows-same : (t u : List ℤ) (s r : ℤ) (n : ℕ) → ((j : ℕ) → shown r (slotAt u j) ≡ shown s (slotAt t j)) → rowsAt u r n ≡ rowsAt t s n
+rows-same t u s r zero same = refl
+rows-same t u s r (suc n) same = ap₂ (λ x l. rowsOf x ++ l) (same n) (rows-same t u s r n same)
 
 -- ---- keys: a slot that lacks one shows no row of it
 slot-lacks : (p q s : ℤ) (x : Slot) → hasKey x p q ≡ false → holds p q (rowsOf (shown s x)) ≡ false

@@ -37,3 +37,8 @@ shown-cases P s x c o n =
     (λ y. rw (column-empty x (eqZ-true _ _ y), none-read x (leZ (x .run) s)) n)
     (λ u. let cell = cellAt table1 (leZ (x .run) s) (column x) in
     cell-cases P x (eqb cell readCurrent) (eqb cell readOld) (c u) (o u) n)
+
+-- two sessions not before a slot's run see the same of it
+pub shown-later : (s s′ : ℤ) (x : Slot) → leZ (x .run) s ≡ true → leZ (x .run) s′ ≡ true → shown s′ x ≡ shown s x
+unfolding shown
+shown-later s s′ x h h′ = rw (h, h′) refl

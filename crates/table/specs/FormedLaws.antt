@@ -1,14 +1,15 @@
 -- The laws of well formed slots: one is empty, or used as `Used` says, and nothing else is well formed. Assumes nothing.
-use mathlib.Core.Path.{_≡_, refl, ap}
-use mathlib.Core.Bool.{true, false, not, _||_, or-true}
+use mathlib.Core.Path.{_≡_, refl, ap, ap₂}
+use mathlib.Core.Bool.{true, false, not, _&&_, _||_, or-true}
 use mathlib.Core.List.{List}
 use Prim.Native.Nat.{ℕ, _<_}
 use lib.IntN.{ℤ, pos, negsuc}
+use lib.Signed.{leZ}
 use native.Mathlib.Omega.{arith}
 use borrow.Author.Tests.{leb-true, eqb-false}
 use Rattle.laws.specs.Tests.{all, all-at, by-test, clash, not-no}
-use Rattle.laws.specs.Order.{eqZ, eqZ-true, fromTo, from-to}
-use Rattle.laws.specs.Lowest.{none-passes}
+use Rattle.laws.specs.Order.{eqZ, eqZ-true, fromTo, from-to, leZ-trans}
+use Rattle.laws.specs.Lowest.{none-passes, all-fail}
 use Rattle.version.specs.declared.Version.{Version}
 use Rattle.version.specs.Record.{lastRun}
 use Rattle.table.specs.declared.Slot.{Slot}
@@ -88,3 +89,23 @@ dead-deleted x v u d =
     three (x .operation) (u .operation)
     (by-test (eqZ (x .operation) insertOperation) (λ y. clash (live-insert x (eqZ-true _ _ y)) d) (λ n. n))
     (by-test (eqZ (x .operation) updateOperation) (λ y. clash (live-update x (eqZ-true _ _ y)) d) (λ n. n))
+
+-- ---- a slot that is well formed stays so where the last run is no lower
+pub formed-later : (x : Slot) (v w : Version) → leZ (lastRun v) (lastRun w) ≡ true → wellFormed x v ≡ true → wellFormed x w ≡ true
+formed-later x v w l h =
+    formed-cases x v h (λ e. rw e (empty-formed w))
+    (λ u. let r = from-to (pos 1) (lastRun v) (x .run) (u .run) in
+    used-formed (record {
+      operation = u .operation;
+      run = ap₂ _&&_ (r .low) (leZ-trans (x .run) (lastRun v) (lastRun w) (r .high) l);
+      current1 = u .current1;
+      current2 = u .current2;
+      old1 = u .old1;
+      old2 = u .old2;
+      old-of-insert = u .old-of-insert;
+    }))
+
+-- ---- where each slot is well formed, none is broken
+pub all-formed : (t : List ℤ) (v : Version) → ((k : ℕ) → wellFormed (slotAt t k) v ≡ true) → anyBroken t v ≡ false
+unfolding anyBroken
+all-formed t v f = all-fail _ (slots t) (λ k l. ap not (f k))

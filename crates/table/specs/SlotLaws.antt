@@ -8,13 +8,13 @@ use native.Mathlib.Nat.{add-zero}
 use native.Mathlib.Omega.{arith}
 use lib.Dec.{ltb}
 use lib.IntN.{ℤ, pos}
-use lib.ListN.{length, getD, getD-replicate, List·getD-eq-default}
+use lib.ListN.{length, getD, getD-replicate, length-replicate, replicate, List·getD-eq-default}
 use lib.Seq.{sets, length-sets}
-use borrow.Author.Tests.{eqb-true, eqb-false, ltb-false, ltb-true}
-use Rattle.laws.specs.Tests.{none-at, not-no, by-test}
+use borrow.Author.Tests.{eqb-true, eqb-false, ltb-false, ltb-true, eq-eqb, ne-eqb, le-ltb}
+use Rattle.laws.specs.Tests.{any, none-at, not-no, by-test}
 use Rattle.laws.specs.Stores.{sets-before, sets-past, sets-within, by-groups}
 use Rattle.table.specs.declared.Slot.{Slot}
-use Rattle.table.specs.Slots.{slotWords, slots, badTable, wordsOf, empty, word, slotAt, putSlot}
+use Rattle.table.specs.Slots.{slotWords, slots, badTable, wordsOf, empty, word, slotAt, putSlot, freshTable}
 
 -- ---- the lengths of a table that is not refused
 pub record Lengths (t : List ℤ) : Type 0 where
@@ -93,3 +93,24 @@ pub by-slots : (t u : List ℤ) → length t ≡ length u → ((k : ℕ) → slo
 by-slots t u e same =
     by-groups (pos 0) slotWords (omega arith) t u e
     (λ k n b. sym (word-at t k n b) ∙ ap (λ x. getD (wordsOf x) n (pos 0)) (same k) ∙ word-at u k n b)
+
+-- ---- a fresh table of 1 to 1,024 slots is not refused, has as many, and each is empty
+pub fresh-length : (n : ℕ) → length (freshTable n) ≡ n * slotWords
+fresh-length n = length-replicate (n * slotWords) (pos 0)
+
+pub fresh-slots : (n : ℕ) → slots (freshTable n) ≡ n
+fresh-slots n = rw (fresh-length n) (omega arith)
+
+pub fresh-shape : (n : ℕ) → 1 ≤ n → n ≤ 1024 → badTable (freshTable n) ≡ false
+unfolding badTable any
+fresh-shape n l h =
+    rw (fresh-length n)
+    (simp (ne-eqb (n * slotWords) 0 (omega arith), eq-eqb (n * slotWords % slotWords) 0 (omega arith), le-ltb 8192 (n * slotWords) (omega arith)))
+
+zero-word : (n i : ℕ) → word (replicate n (pos 0)) i ≡ pos 0
+zero-word n i =
+    by-test (ltb i n) (λ y. getD-replicate n i (pos 0) (pos 0) (ltb-true i n y))
+    (λ m. List·getD-eq-default (replicate n (pos 0)) (pos 0) (omega (arith, length-replicate n (pos 0), ltb-false i n m)))
+
+pub fresh-slot : (n k : ℕ) → slotAt (freshTable n) k ≡ empty
+fresh-slot n k = by-words (λ i b. word-at (freshTable n) k i b ∙ zero-word (n * slotWords) (k * slotWords + i) ∙ sym (getD-replicate slotWords i (pos 0) (pos 0) b))

@@ -8,20 +8,21 @@ use borrow.Author.Tests.{leb-true}
 use mir.Syntax.{w64}
 use mir.Val.{SFits}
 use Rattle.laws.specs.Tests.{any, none-at, not-no, clash}
-use Rattle.laws.specs.Order.{from-to}
+use Rattle.laws.specs.Order.{eqZ, from-to}
 use Rattle.version.specs.declared.Version.{Version}
 use Rattle.version.specs.Record.{largestVersion, freshRecord, badRecord, runNumber}
 
--- ---- what a record that is not refused is: current is from 1 to the largest version
+-- ---- what a record that is not refused is: current is from 1 to the largest version, and below it in a run
 pub record Sound (v : Version) : Type 0 where
   pub low : leZ (pos 1) (v .current) ≡ true
   pub high : leZ (v .current) largestVersion ≡ true
+  pub in-run : v .active ≡ true → eqZ (v .current) largestVersion ≡ false
 
 pub sound : {v : Version} → badRecord v ≡ false → Sound v
 unfolding badRecord
 sound {v} h =
     let f = from-to (pos 1) largestVersion (v .current) (not-no (none-at _ 0 h)) in
-    record { low = f .low; high = f .high }
+    record { low = f .low; high = f .high; in-run = λ a. rw a at (none-at _ 1 h) }
 
 -- the fresh record is one
 pub fresh-sound : badRecord freshRecord ≡ false

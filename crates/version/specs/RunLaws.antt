@@ -1,15 +1,20 @@
 -- How the contracts of begin and commit are shown: a refusal leaves the record as it was; what is not refused is done. And what
 -- was tested where a call is accepted. Assumes nothing.
-use mathlib.Core.Path.{_≡_}
-use mathlib.Core.Bool.{true, false}
-use Prim.Native.Nat.{ℕ}
-use Rattle.laws.specs.Tests.{not-no}
+use mathlib.Core.Path.{_≡_, refl, ap, ap₂}
+use mathlib.Core.Bool.{true, false, not, _&&_, _||_}
+use Prim.Native.Nat.{ℕ, _+_}
+use native.Mathlib.Omega.{arith}
+use lib.IntN.{ℤ, pos, negsuc, _+ℤ_}
+use lib.Signed.{leZ}
+use borrow.Author.Tests.{leb-true, le-leb, eqb-false}
+use Rattle.laws.specs.Tests.{any, clash, not-no}
 use Rattle.laws.specs.First.{unless-refused, unless-done, none}
-use Rattle.laws.specs.Order.{eqZ}
+use Rattle.laws.specs.Order.{eqZ, next-low}
 use Rattle.version.specs.declared.Version.{Version}
 use Rattle.version.specs.declared.Numbered.the-variants.{Number, Refused}
 use Rattle.version.specs.declared.Turned.{Turned}
 use Rattle.version.specs.Record.{largestVersion, badRecord, runNumber}
+use Rattle.version.specs.RecordLaws.{sound}
 use Rattle.version.specs.Runs.{keptAs, beginRefusal, beginAnswer, beginRecord, begunFrom, Begun, commitRefusal, commitAnswer, commitRecord, committedFrom, Committed}
 
 pub begin-kept : {v : Version} {n : ℕ} → beginRefusal v ≡ n → (n ≡ 0 → ⊥) → Begun v (keptAs v n)
@@ -50,3 +55,22 @@ unfolding commitRefusal
 can-commit v h =
     let no = none _ tt h in
     record { known = no 2; active = not-no (no 8) }
+
+-- ---- what they leave is sound: a version is left to begin at, and the run's number is one of them
+below-largest : (c : ℤ) → leZ (pos 1) c ≡ true → leZ c largestVersion ≡ true → eqZ c largestVersion ≡ false → leZ (c +ℤ pos 1) largestVersion ≡ true
+below-largest (pos n) l h ne = le-leb (n + 1) 1000000000 (omega (arith, leb-true n 1000000000 h, eqb-false n 1000000000 ne))
+below-largest (negsuc n) l h ne = clash l refl
+
+pub begun-sound : (v : Version) → beginRefusal v ≡ 0 → badRecord (begunFrom v) ≡ false
+unfolding badRecord any
+begun-sound v h =
+    let can = can-begin v h in
+    let s = sound {v = v} (can .known) in
+    ap₂ _||_ (ap not (ap₂ _&&_ (s .low) (s .high))) (can .room)
+
+pub committed-sound : (v : Version) → commitRefusal v ≡ 0 → badRecord (committedFrom v) ≡ false
+unfolding badRecord any
+committed-sound v h =
+    let can = can-commit v h in
+    let s = sound {v = v} (can .known) in
+    ap₂ _||_ (ap not (ap₂ _&&_ (next-low (v .current) (s .low)) (below-largest (v .current) (s .low) (s .high) (s .in-run (can .active))))) refl
