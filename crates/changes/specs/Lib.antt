@@ -5,6 +5,7 @@ pub mod Effects
 pub mod Whole
 pub mod Accepted
 pub mod Refused
+pub mod Outcomes
 pub mod Running
 pub mod Insert
 pub mod Update

@@ -116,8 +116,8 @@ module _ (n : ℕ) (t : List ℤ) (v : Version) (g : Followed) (i : Inv n t v g)
       let rest = restAt t (runNumber v) k n in
       let before = rowsOf (shown (runNumber v) (slotAt t k)) in
       let e : without one two (before ++ rest) ≡ rest =
-        without-append one two before rest
-        ∙ ap₂ _++_ (own-gone one two (shown (runNumber v) (slotAt t k)) (w .effect .before)) (without-absent one two rest (rest-lacks t (runNumber v) one two k n (w .alone))) in
+      without-append one two before rest
+      ∙ ap₂ _++_ (own-gone one two (shown (runNumber v) (slotAt t k)) (w .effect .before)) (without-absent one two rest (rest-lacks t (runNumber v) one two k n (w .alone))) in
       subst (λ l. List·Permᴰ l (without one two (g .running))) e
       (without-perm one two (L.List·Permᴰ·trans (Permᴰ·symm (focus t (runNumber v) k n (subst (λ m. k < m) (i .size) (w .place))))
       (subst (λ s. List·Permᴰ (rowsAt t s n) (g .running)) (high-is n t v g i a) (i .high))))

@@ -1,3 +1,5 @@
 pub mod Databases
 pub mod Rows
 pub mod Invariant
+pub mod Steps
+pub mod Answers

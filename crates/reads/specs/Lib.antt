@@ -5,3 +5,4 @@ pub mod Session
 pub mod ReadSlot
 pub mod ReadKey
 pub mod RollUp
+pub mod Outcomes

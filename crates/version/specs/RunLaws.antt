@@ -2,7 +2,7 @@
 -- was tested where a call is accepted. Assumes nothing.
 use mathlib.Core.Path.{_≡_, refl, ap, ap₂}
 use mathlib.Core.Bool.{true, false, not, _&&_, _||_}
-use Prim.Native.Nat.{ℕ, _+_}
+use Prim.Native.Nat.{ℕ, suc, _+_}
 use native.Mathlib.Omega.{arith}
 use lib.IntN.{ℤ, pos, negsuc, _+ℤ_}
 use lib.Signed.{leZ}
@@ -11,6 +11,7 @@ use Rattle.laws.specs.Tests.{any, clash, not-no}
 use Rattle.laws.specs.First.{unless-refused, unless-done, none}
 use Rattle.laws.specs.Order.{eqZ, next-low}
 use Rattle.version.specs.declared.Version.{Version}
+use Rattle.version.specs.declared.Numbered.{Numbered}
 use Rattle.version.specs.declared.Numbered.the-variants.{Number, Refused}
 use Rattle.version.specs.declared.Turned.{Turned}
 use Rattle.version.specs.Record.{largestVersion, badRecord, runNumber}
@@ -32,6 +33,31 @@ commit-kept {v} e z = record { answer = unless-refused Refused (Number (runNumbe
 pub commit-done : {v : Version} {r : Turned} → commitRefusal v ≡ 0 → r .answer ≡ Number (runNumber v) → r .version ≡ committedFrom v → Committed v r
 unfolding commitAnswer commitRecord
 commit-done {v} e a b = record { answer = unless-done Refused e a; version = unless-done (λ n. v) e b }
+
+-- ---- what comes of them by their refusal
+pub record Refuses (n : ℕ) (v : Version) (r : Numbered) (v′ : Version) : Type 0 where
+  pub answer : r ≡ Refused n
+  pub record-kept : v′ ≡ v
+
+pub begin-refuses : (v : Version) (n : ℕ) → beginRefusal v ≡ suc n → Refuses (suc n) v (beginAnswer v) (beginRecord v)
+unfolding beginAnswer beginRecord
+begin-refuses v n h = record { answer = rw h; record-kept = rw h }
+
+pub commit-refuses : (v : Version) (n : ℕ) → commitRefusal v ≡ suc n → Refuses (suc n) v (commitAnswer v) (commitRecord v)
+unfolding commitAnswer commitRecord
+commit-refuses v n h = record { answer = rw h; record-kept = rw h }
+
+pub record Accepts (v : Version) (r : Numbered) (v′ after : Version) : Type 0 where
+  pub answer : r ≡ Number (runNumber v)
+  pub record-after : v′ ≡ after
+
+pub begin-accepts : (v : Version) → beginRefusal v ≡ 0 → Accepts v (beginAnswer v) (beginRecord v) (begunFrom v)
+unfolding beginAnswer beginRecord
+begin-accepts v h = record { answer = rw h; record-after = rw h }
+
+pub commit-accepts : (v : Version) → commitRefusal v ≡ 0 → Accepts v (commitAnswer v) (commitRecord v) (committedFrom v)
+unfolding commitAnswer commitRecord
+commit-accepts v h = record { answer = rw h; record-after = rw h }
 
 -- ---- an accepted begin: the record is sound, no run is active, and a version is left
 pub record CanBegin (v : Version) : Type 0 where
