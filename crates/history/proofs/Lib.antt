@@ -3,3 +3,4 @@ pub mod Rows
 pub mod Invariant
 pub mod Steps
 pub mod Answers
+pub mod Sessions

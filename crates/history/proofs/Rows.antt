@@ -44,7 +44,7 @@ past : (r : Row) (b d : Database) → List·Permᴰ (r ∷ b ++ d) (b ++ r ∷ d
 past r [] d = Permᴰ·refl _
 past r (x ∷ b) d = L.List·Permᴰ·trans (L.List·Permᴰ·swap refl refl) (L.List·Permᴰ·cons refl (past r b d))
 
-front : (a b d : Database) → List·Permᴰ (a ++ (b ++ d)) (b ++ (a ++ d))
+pub front : (a b d : Database) → List·Permᴰ (a ++ (b ++ d)) (b ++ (a ++ d))
 front [] b d = Permᴰ·refl _
 front (r ∷ a) b d = L.List·Permᴰ·trans (L.List·Permᴰ·cons refl (front a b d)) (past r b (a ++ d))
 
