@@ -121,7 +121,7 @@ delete-wrote t v one two whole h =
 
 -- ---- insert
 -- a slot that has a key and is well formed is used
-keyed-used : (x : Slot) (v : Version) (one two : ℤ) → wellFormed x v ≡ true → hasKey x one two ≡ true → Used x v
+pub keyed-used : (x : Slot) (v : Version) (one two : ℤ) → wellFormed x v ≡ true → hasKey x one two ≡ true → Used x v
 keyed-used x v one two w h = formed-cases x v w (λ e. clash h (rw e (empty-keyless one two))) (λ u. u)
 
 pub insert-wrote : (t : List ℤ) (v : Version) (one two a b : ℤ) → Whole t v → insertRefusal t v one two a b ≡ 0

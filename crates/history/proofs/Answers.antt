@@ -2,22 +2,21 @@
 -- permutation of its database, so a key's row, a roll-up and a slot's row are the database's; once it has, the refusal is 4.
 -- Assumes nothing.
 use mathlib.Core.Path.{_≡_, refl, sym, ap, _∙_, subst}
-use mathlib.Core.Bool.{Bool, true, false, cond}
+use mathlib.Core.Bool.{true, false, cond}
 use mathlib.Core.List.{List, List·Permᴰ, map}
 use Prim.Native.Nat.{ℕ, suc, _+_, _-_, _≤_, _<_}
 use native.Mathlib.Omega.{arith}
 use lib.Dec.{leb, ltb, eqb}
 use lib.IntN.{ℤ, pos}
-use borrow.Author.Tests.{le-leb, lt-leb, leb-true, leb-false, ltb-true, ltb-false, eqb-true, eqb-false}
-use Rattle.laws.specs.Tests.{by-test, clash}
+use borrow.Author.Tests.{le-leb, leb-true, ltb-true, ltb-false, eqb-true, eqb-false}
+use Rattle.laws.specs.Tests.{by-test}
 use Rattle.version.specs.declared.Version.{Version}
 use Rattle.version.specs.Sessions.{unborn, expired}
 use Rattle.version.specs.SessionLaws.{born, expires, lastBegun}
 use Rattle.table.specs.Slots.{slots, slotAt}
 use Rattle.table.specs.FormedLaws.{all-formed}
-use Rattle.table.specs.Keys.{hasKey, keySlot, keyed}
+use Rattle.table.specs.Keys.{keySlot, keyed}
 use Rattle.table.specs.KeyLaws.{keySlot-is, has-key, absent-nowhere, absent-empty}
-use Rattle.reads.specs.declared.Seen.{Seen}
 use Rattle.reads.specs.declared.Seen.the-variants as seen
 use Rattle.reads.specs.Table1.{shown}
 use Rattle.reads.specs.Table1Laws.{shown-empty}
@@ -26,11 +25,10 @@ use Rattle.reads.specs.RollUp.{tally, sums}
 use Rattle.reads.specs.Outcomes.{key-expired, key-shown, roll-up-expired, roll-up-summed, slot-expired, slot-past, slot-shown}
 use Rattle.changes.specs.Whole.{only}
 use Rattle.calls.specs.Calls as answer
-use Rattle.calls.specs.Calls.{Answer}
-use Rattle.history.specs.Databases.{Database, found, rolledUp, asSeen}
+use Rattle.history.specs.Databases.{found, asSeen}
 use Rattle.history.specs.Followed.{Followed, current, databaseAt, HasBegun, accepted}
 use Rattle.history.specs.Histories.{World}
-use Rattle.history.specs.Demand.{Committed, Until, KeyReads, RollUps, SlotRead, SlotReads}
+use Rattle.history.specs.Demand.{Committed, KeyReads, RollUps, SlotReads}
 use Rattle.history.proofs.Databases.{found-perm, found-absent, tally-perm}
 use Rattle.history.proofs.Rows.{rowsAt, found-rows, rows-lack, rows-norepeat, tally-seen}
 use Rattle.history.proofs.Invariant.{Inv, lowOf}

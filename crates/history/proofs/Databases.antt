@@ -3,9 +3,9 @@
 -- the tests on them alone. Assumes nothing.
 use mathlib.Core.Path.{_≡_, refl, sym, ap, ap₂, _∙_, subst}
 use mathlib.Core.Bool.{Bool, true, false, cond, _&&_, _||_}
-use mathlib.Core.List.{List, [], _∷_, _++_, map, List·Permᴰ, Permᴰ·refl}
+use mathlib.Core.List.{[], _∷_, _++_, map, List·Permᴰ, Permᴰ·refl}
 use mathlib.Core.List as L
-use Prim.Native.Nat.{ℕ, suc}
+use Prim.Native.Nat.{suc}
 use lib.IntN.{ℤ, _+ℤ_, +ℤ-comm, +ℤ-assoc}
 use lib.ListN.{length}
 use Rattle.laws.specs.Tests.{by-test, clash}
@@ -77,11 +77,11 @@ without-append p q [] e = refl
 without-append p q (r ∷ d) e =
     ap (λ l. cond (isKey p q r) l (r ∷ l)) (without-append p q d e) ∙ cond-append (isKey p q r) r (without p q d) (without p q e)
 
-cond-perm : (t : Bool) (r : Row) {d e : Database} → List·Permᴰ d e → List·Permᴰ (cond t d (r ∷ d)) (cond t e (r ∷ e))
+pub cond-perm : (t : Bool) (r : Row) {d e : Database} → List·Permᴰ d e → List·Permᴰ (cond t d (r ∷ d)) (cond t e (r ∷ e))
 cond-perm true r x = x
 cond-perm false r x = L.List·Permᴰ·cons refl x
 
-cond-swap : (t u : Bool) (a b : Row) (d : Database)
+pub cond-swap : (t u : Bool) (a b : Row) (d : Database)
     → List·Permᴰ (cond t (cond u d (b ∷ d)) (a ∷ cond u d (b ∷ d))) (cond u (cond t d (a ∷ d)) (b ∷ cond t d (a ∷ d)))
 cond-swap true u a b d = Permᴰ·refl _
 cond-swap false true a b d = Permᴰ·refl _

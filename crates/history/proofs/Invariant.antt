@@ -3,8 +3,8 @@
 -- the current version and the running one, else the one before current and current. A change keeps it by its effect, once for all
 -- changes; begin moves the two versions up, since no slot is of a later run; commit moves nothing. Assumes nothing.
 use mathlib.Core.Path.{_≡_, refl, sym, ap, ap₂, _∙_, subst}
-use mathlib.Core.Bool.{Bool, true, false, cond}
-use mathlib.Core.List.{List, [], _∷_, _++_, List·Permᴰ, Permᴰ·symm, Permᴰ·refl}
+use mathlib.Core.Bool.{true, false, cond}
+use mathlib.Core.List.{List, [], _∷_, _++_, List·Permᴰ, Permᴰ·symm}
 use mathlib.Core.List as L
 use Prim.Native.Nat.{ℕ, zero, suc, _+_, _-_, _/_, _≤_, _<_}
 use native.Mathlib.Numerals.{add-one}
@@ -12,7 +12,7 @@ use native.Mathlib.Omega.{arith}
 use lib.Dec.{eqb}
 use lib.IntN.{ℤ, pos, _+ℤ_}
 use lib.Signed.{leZ}
-use lib.ListN.{length, getD, length-append, List·getD-append}
+use lib.ListN.{getD, length-append, List·getD-append}
 use lib.Seq.{getD-append-seam}
 use borrow.Author.Tests.{eqb-true, eqb-false, le-leb}
 use Rattle.laws.specs.Tests.{by-test, clash}
@@ -23,11 +23,9 @@ use Rattle.version.specs.RecordLaws.{fresh-sound}
 use Rattle.version.specs.SessionLaws.{lastBegun}
 use Rattle.version.specs.Runs.{beginRefusal, begunFrom, commitRefusal, committedFrom}
 use Rattle.version.specs.RunLaws.{can-begin, can-commit, begun-sound, committed-sound}
-use Rattle.table.specs.declared.Slot.{Slot}
 use Rattle.table.specs.Slots.{slotWords, slots, slotAt, empty, freshTable}
 use Rattle.table.specs.SlotLaws.{put-length, fresh-slots, fresh-shape, fresh-slot}
-use Rattle.table.specs.Formed.{wellFormed}
-use Rattle.table.specs.FormedLaws.{Used, formed-cases, formed-later, empty-formed}
+use Rattle.table.specs.FormedLaws.{formed-cases, formed-later, empty-formed}
 use Rattle.table.specs.KeyLaws.{empty-keyless}
 use Rattle.reads.specs.declared.Seen.{Seen}
 use Rattle.reads.specs.declared.Seen.the-variants as seen
@@ -36,7 +34,7 @@ use Rattle.reads.specs.Table1Laws.{shown-empty}
 use Rattle.reads.specs.ShownLaws.{shown-later}
 use Rattle.changes.specs.Effects.{Own}
 use Rattle.changes.specs.Whole.{Whole, Wrote, written-slot, other-slot, whole-after}
-use Rattle.history.specs.Databases.{Database, row, isKey, without}
+use Rattle.history.specs.Databases.{Database, row, without}
 use Rattle.history.specs.Followed.{Followed, start, current, databaseAt, withRunning, hear}
 use Rattle.calls.specs.Calls.{begin, commit}
 use Rattle.history.specs.Histories.{Size}

@@ -4,3 +4,6 @@ pub mod Invariant
 pub mod Steps
 pub mod Answers
 pub mod Sessions
+pub mod Changing
+pub mod Fullness
+pub mod Demand3

@@ -1,15 +1,15 @@
 -- The rows that a version shows, slot by slot: one slot put first, the others behind it; no key twice where the table has none
 -- twice; a key's row and a roll-up read off them are what Table 1 and the tally give. Assumes nothing.
 use mathlib.Core.Path.{_≡_, refl, sym, ap, ap₂, _∙_, subst}
-use mathlib.Core.Bool.{Bool, true, false, cond, _&&_, _||_}
+use mathlib.Core.Bool.{false, cond, _||_}
 use mathlib.Core.List.{List, [], _∷_, _++_, map, List·Permᴰ, Permᴰ·refl}
 use mathlib.Core.List as L
 use Prim.Native.Nat.{ℕ, zero, suc, _≤_, _<_}
 use native.Mathlib.Omega.{arith}
 use lib.Dec.{eqb}
 use lib.IntN.{ℤ}
-use borrow.Author.Tests.{eqb-true, eqb-false, eq-eqb, ne-eqb}
-use Rattle.laws.specs.Tests.{by-test, clash}
+use borrow.Author.Tests.{eqb-true, eqb-false, ne-eqb}
+use Rattle.laws.specs.Tests.{by-test}
 use Rattle.laws.specs.Order.{eqZ}
 use Rattle.table.specs.declared.Slot.{Slot}
 use Rattle.table.specs.Slots.{slotAt}
@@ -22,7 +22,7 @@ use Rattle.reads.specs.ShownLaws.{shown-cases}
 use Rattle.reads.specs.RollUp.{tally, tallied}
 use Rattle.reads.specs.RollUp
 use Rattle.changes.specs.Whole.{Distinct}
-use Rattle.history.specs.Databases.{Row, Database, row, isKey, holds, found, asSeen}
+use Rattle.history.specs.Databases.{Row, Database, row, holds, found, asSeen}
 use Rattle.history.specs.Demand.{rowsOf}
 use Rattle.history.proofs.Databases.{holds-append, NoRepeat, found-absent, found-perm, is-key}
 

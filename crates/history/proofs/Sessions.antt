@@ -2,9 +2,9 @@
 -- that the session gets, at whatever places of the history, are those of the table at its start, in its order of slots.
 -- Assumes nothing.
 use mathlib.Core.Path.{_≡_, refl, sym, ap, ap₂, _∙_, subst}
-use mathlib.Core.Bool.{Bool, true, false, cond}
+use mathlib.Core.Bool.{Bool, true, false}
 use mathlib.Core.Logic.{∥∥₁-map}
-use mathlib.Core.List.{List, [], _∷_, _++_, Perm, List·Permᴰ, Permᴰ·refl}
+use mathlib.Core.List.{List, [], _∷_, _++_, List·Permᴰ}
 use mathlib.Core.List as L
 use Prim.Native.Nat.{ℕ, zero, suc, _+_, _-_, _≤_, _<_}
 use native.Mathlib.Omega.{arith}
@@ -16,31 +16,28 @@ use Rattle.laws.specs.Tests.{by-test, clash}
 use Rattle.laws.specs.Repeats.{perm-length}
 use Rattle.version.specs.declared.Version.{Version}
 use Rattle.version.specs.SessionLaws.{lastBegun}
-use Rattle.version.specs.Runs.{beginRefusal, commitRefusal}
-use Rattle.version.specs.RunLaws.{begin-refuses, begin-accepts, commit-refuses, commit-accepts}
-use Rattle.table.specs.Slots.{slots, slotAt}
+use Rattle.table.specs.Slots.{slotAt}
 use Rattle.table.specs.SlotLaws.{lengths}
 use Rattle.reads.specs.declared.Seen.{Seen}
 use Rattle.reads.specs.declared.Seen.the-variants as seen
 use Rattle.reads.specs.Table1.{shown}
-use Rattle.reads.specs.Outcomes.{slot-shown, slot-past}
+use Rattle.reads.specs.Outcomes.{slot-shown}
 use Rattle.changes.specs.declared.Placed.{Placed}
 use Rattle.changes.specs.Whole.{Wrote}
-use Rattle.changes.specs.Insert.{insertRefusal, insertAnswer, insertWords}
-use Rattle.changes.specs.Update.{updateRefusal, updateAnswer, updateWords}
-use Rattle.changes.specs.Delete.{deleteRefusal, deleteAnswer, deleteWords}
+use Rattle.changes.specs.Insert.{insertRefusal, insertWords}
+use Rattle.changes.specs.Update.{updateRefusal, updateWords}
+use Rattle.changes.specs.Delete.{deleteRefusal, deleteWords}
 use Rattle.changes.specs.Accepted.{insert-wrote, update-wrote, delete-wrote}
 use Rattle.changes.specs.Outcomes.{Refuses, Accepts, insert-refuses, insert-accepts, update-refuses, update-accepts, delete-refuses, delete-accepts}
 use Rattle.calls.specs.Calls.{Call, openSession, begin, commit, readSlot, readKey, rollUp, insert, update, delete, saveHeader, saveBlock, loadHeader, loadBlock, Answer}
 use Rattle.calls.specs.Calls as answer
-use Rattle.calls.specs.Perform.{perform}
 use Rattle.history.specs.Databases.{Database}
 use Rattle.history.specs.Followed.{Followed, current, databaseAt, HasBegun, accepted, withRunning, hear, followed}
 use Rattle.history.specs.Histories.{NoLoad, isLoad, World, answerOf, next, Turn, mine, other, callsOf, slotsAsked, answersGot}
-use Rattle.history.specs.Demand.{Committed, SlotRead, Sessions, upTo, rowsOf, rowsGot, NoneRefused}
+use Rattle.history.specs.Demand.{Committed, Sessions, upTo, rowsOf, rowsGot, NoneRefused}
 use Rattle.history.proofs.Rows.{rowsAt, append-perm, front}
-use Rattle.history.proofs.Invariant.{Inv, lowOf, low-is, current-stays}
-use Rattle.history.proofs.Steps.{InvW, next-inv, refused-placed}
+use Rattle.history.proofs.Invariant.{Inv, current-stays}
+use Rattle.history.proofs.Steps.{InvW, next-inv}
 use Rattle.history.proofs.Answers.{is-born, kept, open-rows, slot-reads}
 
 -- ---- what is followed only grows: runs that have begun, databases committed
@@ -95,15 +92,15 @@ module _ (n : ℕ) (w : World) (i : InvW n w) where
       hear-grows (loadHeader b) = same-grows _
       hear-grows (loadBlock k b) = same-grows _
 
--- ---- what a slot shows at a version never changes while that version stays open
+  -- ---- what a slot shows at a version never changes while that version stays open
   module _ (s : ℕ) (c : Committed (w .told) s) (no-run : HasBegun (w .told) (s + 2) → ⊥) where
     -- in a run the one open version is current
     is-current : w .told .active ≡ true → pos s ≡ w .state .version .current
     is-current a =
         let b : w .told .begun ≡ suc (current (w .told)) = i .begun ∙ ap (λ x. lastBegun x (current (w .told))) a in
         let e : s ≡ current (w .told) = by-test (ltb s (current (w .told)))
-          (λ y. absurd (no-run (omega (arith, ltb-true s (current (w .told)) y))))
-          (λ m. omega (arith, ltb-false s (current (w .told)) m, c .to)) in
+        (λ y. absurd (no-run (omega (arith, ltb-true s (current (w .told)) y))))
+        (λ m. omega (arith, ltb-false s (current (w .told)) m, c .to)) in
         ap pos e ∙ sym (i .version)
 
     refused-stays : (m : ℕ) (r : Placed) (t′ : List ℤ) → Refuses (suc m) (w .state .words) r t′ → (j : ℕ)
@@ -172,7 +169,7 @@ rows-for-perm t s (L.List·Permᴰ·swap {a = a} {b = b} {l = l} e f) =
 rows-for-perm t s (L.List·Permᴰ·trans x y) = L.List·Permᴰ·trans (rows-for-perm t s x) (rows-for-perm t s y)
 
 -- ---- a session, turn by turn
-next-committed : (n : ℕ) (w : World) (i : InvW n w) (s : ℕ) → Committed (w .told) s → (call : Call) → Committed (next call w .told) s
+pub next-committed : (n : ℕ) (w : World) (i : InvW n w) (s : ℕ) → Committed (w .told) s → (call : Call) → Committed (next call w .told) s
 next-committed n w i s c call = record { from = c .from; to = omega (arith, c .to, next-grows n w i call .current) }
 
 not-refused : (m : ℕ) (a : Answer) → a ≡ answer.seen (seen.Refused (suc m)) → accepted a ≡ true → ⊥

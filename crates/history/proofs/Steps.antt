@@ -1,33 +1,32 @@
 -- Every call but a load of slots keeps the invariant, so it holds after every history. A refused call leaves the words, the
 -- record and what is followed as they were; an accepted change, begin or commit is a lemma of `Invariant`. Assumes nothing.
-use mathlib.Core.Path.{_≡_, refl, sym, ap, _∙_, subst}
+use mathlib.Core.Path.{_≡_, refl, sym, ap, _∙_}
 use mathlib.Core.Bool.{Bool, true, false}
 use mathlib.Core.List.{List, [], _∷_, _++_}
 use Prim.Native.Nat.{ℕ, zero, suc}
-use lib.Dec.{eqb, eqb·suc-zero}
-use lib.IntN.{ℤ, pos}
-use Rattle.laws.specs.Tests.{clash, not-no}
-use Rattle.laws.specs.First.{unless, none}
+use lib.Dec.{eqb·suc-zero}
+use lib.IntN.{ℤ}
+use Rattle.laws.specs.Tests.{clash}
+use Rattle.laws.specs.First.{none}
 use Rattle.version.specs.declared.Version.{Version}
 use Rattle.version.specs.declared.Numbered.{Numbered}
 use Rattle.version.specs.declared.Numbered.the-variants as numbered
-use Rattle.version.specs.Record.{runNumber}
 use Rattle.version.specs.RunLaws.{begin-refuses, begin-accepts, commit-refuses, commit-accepts}
-use Rattle.version.specs.Runs.{beginRefusal, beginAnswer, beginRecord, commitRefusal, commitAnswer, commitRecord}
+use Rattle.version.specs.Runs.{beginRefusal, commitRefusal}
 use Rattle.reads.specs.declared.Seen.{Seen}
 use Rattle.reads.specs.declared.Seen.the-variants as seen
 use Rattle.changes.specs.declared.Placed.{Placed}
 use Rattle.changes.specs.declared.Placed.the-variants as placed
-use Rattle.changes.specs.Insert.{insertRefusal, insertAnswer, insertWords}
-use Rattle.changes.specs.Update.{updateRefusal, updateAnswer, updateWords}
-use Rattle.changes.specs.Delete.{deleteRefusal, deleteAnswer, deleteWords}
+use Rattle.changes.specs.Insert.{insertRefusal}
+use Rattle.changes.specs.Update.{updateRefusal}
+use Rattle.changes.specs.Delete.{deleteRefusal}
 use Rattle.changes.specs.Whole.{Wrote}
 use Rattle.changes.specs.Outcomes.{Refuses, Accepts, insert-refuses, insert-accepts, update-refuses, update-accepts, delete-refuses, delete-accepts}
 use Rattle.changes.specs.Accepted.{insert-wrote, update-wrote, delete-wrote}
-use Rattle.calls.specs.Calls.{Call, openSession, begin, commit, readSlot, readKey, rollUp, insert, update, delete, saveHeader, saveBlock, loadHeader, loadBlock, Answer}
+use Rattle.calls.specs.Calls.{Call, openSession, begin, commit, readSlot, readKey, rollUp, insert, update, delete, saveHeader, saveBlock, loadHeader, loadBlock}
 use Rattle.calls.specs.Calls as answer
-use Rattle.calls.specs.Perform.{State, perform}
-use Rattle.history.specs.Databases.{Database, row, without, placed}
+use Rattle.calls.specs.Perform.{perform}
+use Rattle.history.specs.Databases.{without, placed}
 use Rattle.history.specs.Followed.{Followed, accepted, hear, followed, withRunning}
 use Rattle.history.specs.Histories.{NoLoad, isLoad, Size, World, fresh, answerOf, next, after}
 use Rattle.history.specs.Demand.{rowsOf}

@@ -1,6 +1,6 @@
 -- A database: keys with totals, no key twice. What a change makes of one, what a read of one answers. No table word is read
 -- here. Assumes nothing.
-use mathlib.Core.Bool.{Bool, true, false, cond, not, _&&_, _||_}
+use mathlib.Core.Bool.{Bool, false, cond, _&&_, _||_}
 use mathlib.Core.List.{List, [], _∷_, _++_, map}
 use lib.IntN.{ℤ}
 use Rattle.laws.specs.Order.{eqZ}

@@ -1,9 +1,8 @@
 -- Demand 3, said of a world: a table and a record with what was followed of their history. What each statement promises holds
 -- after every history, `Kept` below. 'Committed', 'current' and 'running' are by what was followed alone. Assumes nothing.
 use mathlib.Core.Path.{_≡_}
-use mathlib.Core.Bool.{Bool, true, false}
-use mathlib.Core.Logic.{_↔_}
-use mathlib.Core.List.{List, [], _∷_, _++_, map, Perm}
+use mathlib.Core.Bool.{true, false}
+use mathlib.Core.List.{List, [], _∷_, _++_, Perm}
 use Prim.Native.Nat.{ℕ, zero, suc, _+_, _≤_, _<_}
 use lib.IntN.{ℤ, pos}
 use lib.ListN.{length}
@@ -14,7 +13,7 @@ use Rattle.reads.specs.declared.Rolled.the-variants as rolled
 use Rattle.changes.specs.declared.Placed.the-variants as placed
 use Rattle.calls.specs.Calls.{Call, readSlot, readKey, rollUp, insert, update, delete, Answer}
 use Rattle.calls.specs.Calls as answer
-use Rattle.history.specs.Databases.{Row, Database, row, holds, found, rolledUp, together, asSeen}
+use Rattle.history.specs.Databases.{Row, Database, row, holds, found, rolledUp, together}
 use Rattle.history.specs.Followed.{Followed, current, databaseAt, HasBegun, accepted}
 use Rattle.history.specs.Histories.{NoLoad, Size, World, fresh, answerOf, after, Turn, callsOf, slotsAsked, answersGot}
 
@@ -79,11 +78,15 @@ Sessions n w = (s : ℕ) → Committed (w .told) s → (turns : List Turn) → N
 
 -- ---- during a run, an insert of a key not live, totals lawful, is refused as full exactly when the current database and the
 -- running one together hold as many keys as there are slots, this key in neither; and else it is accepted
+abbrev pub bothOf : World → Database
+bothOf w = together (databaseAt (w .told) (current (w .told))) (w .told .running)
+
+abbrev pub IsFull : ℕ → World → ℤ → ℤ → Type 0
+IsFull n w one two = (length (bothOf w) ≡ n) × (holds one two (bothOf w) ≡ false)
+
 pub record Full (n : ℕ) (w : World) (one two a b : ℤ) : Type 0 where
-  pub both : Database
-  pub full : (length both ≡ n) × (holds one two both ≡ false) → answerOf (insert one two a b) w ≡ answer.placed (placed.Refused 12)
-  pub room : ((length both ≡ n) × (holds one two both ≡ false) → ⊥) → accepted (answerOf (insert one two a b) w) ≡ true
-  pub is : both ≡ together (databaseAt (w .told) (current (w .told))) (w .told .running)
+  pub full : IsFull n w one two → answerOf (insert one two a b) w ≡ answer.placed (placed.Refused 12)
+  pub room : (IsFull n w one two → ⊥) → accepted (answerOf (insert one two a b) w) ≡ true
 
 abbrev pub Fullness : ℕ → World → Type 0
 Fullness n w = w .told .active ≡ true → (one two a b : ℤ) → unlawful a b ≡ false → holds one two (w .told .running) ≡ false → Full n w one two a b
@@ -101,6 +104,21 @@ pub record Changes (w : World) (one two : ℤ) : Type 0 where
 abbrev pub ChangesKept : World → Type 0
 ChangesKept w = w .told .active ≡ true → (one two : ℤ) → Changes w one two
 
+-- ---- the incident: a region is a first key, its stores the rows that have it. Wherever session s is not refused, the roll-up
+-- of the region is the count and the sums of its stores as the session read them, slot by slot, at any places of the history
+abbrev pub Incident : ℕ → World → Type 0
+Incident n w = (s : ℕ) → Committed (w .told) s → (turns : List Turn) → NoLoad (callsOf s turns)
+    → Perm (slotsAsked turns) (upTo n) → NoneRefused (answersGot s turns w)
+    → (h : List Call) → NoLoad h → (HasBegun (after h w .told) (s + 2) → ⊥)
+    → (region : ℤ) → answerOf (rollUp (pos s) region) (after h w) ≡ answer.rolled (rolledUp region (rowsGot (answersGot s turns w)))
+
+-- ---- the databases: database 1 is empty; a committed one is never altered; and between runs the running one is the current, so
+-- that database v + 1 is what run v + 1's accepted changes make of database v, one by one
+pub record Databases (w : World) : Type 0 where
+  pub first : databaseAt (w .told) 1 ≡ []
+  pub kept : (s : ℕ) → Committed (w .told) s → (h : List Call) → NoLoad h → databaseAt (after h w .told) s ≡ databaseAt (w .told) s
+  pub settled : w .told .active ≡ false → w .told .running ≡ databaseAt (w .told) (current (w .told))
+
 -- ---- all of it, after a history
 pub record Kept (n : ℕ) (w : World) : Type 0 where
   pub keyReads : KeyReads w
@@ -109,6 +127,8 @@ pub record Kept (n : ℕ) (w : World) : Type 0 where
   pub sessions : Sessions n w
   pub fullness : Fullness n w
   pub changes : ChangesKept w
+  pub incident : Incident n w
+  pub databases : Databases w
 
 abbrev pub Demand3 : Type 0
 Demand3 = (n : ℕ) → Size n → (h : List Call) → NoLoad h → Kept n (after h (fresh n))

@@ -1,12 +1,11 @@
 -- What a session sees of any slot: its current row or its old one, and then the slot is used; or no row. Every cell of Table 1
 -- is one of the three. Assumes nothing.
-use mathlib.Core.Path.{_≡_, refl, subst, sym}
+use mathlib.Core.Path.{_≡_, refl}
 use mathlib.Core.Bool.{Bool, true, false, cond}
-use Prim.Native.Nat.{ℕ}
 use lib.Dec.{eqb}
 use lib.IntN.{ℤ}
 use lib.Signed.{leZ}
-use Rattle.laws.specs.Tests.{by-test, clash}
+use Rattle.laws.specs.Tests.{by-test}
 use Rattle.laws.specs.Order.{eqZ, eqZ-true}
 use Rattle.laws.specs.Cells.{cellAt}
 use Rattle.table.specs.declared.Slot.{Slot}
