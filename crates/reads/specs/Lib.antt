@@ -6,3 +6,4 @@ pub mod ReadSlot
 pub mod ReadKey
 pub mod RollUp
 pub mod Outcomes
+pub mod RollUpLaws

@@ -16,14 +16,10 @@ use Rattle.reads.specs.declared.Seen.{Seen}
 use Rattle.reads.specs.declared.Seen.the-variants.{Row, NoRow, Refused}
 use Rattle.reads.specs.declared.Rolled.{Rolled}
 use Rattle.reads.specs.declared.Rolled.the-variants as rolled
+use Rattle.reads.specs.declared.Tally.{Tally}
 use Rattle.reads.specs.Table1.{shown}
 
--- the count of rows and the sums of both totals
-pub record Tally : Type 0 where
-  pub count : ℕ
-  pub first : ℤ
-  pub second : ℤ
-
+-- a tally is the count of rows and the sums of both totals
 abbrev pub nothing : Tally
 nothing = record { count = 0; first = pos 0; second = pos 0 }
 

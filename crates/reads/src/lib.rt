@@ -1,4 +1,17 @@
-// What a session reads: Table 1, and the answers of the three reads.
+// What a session reads: Table 1, and the three reads: of a slot, of a key, and the roll-up. Every read begins with the tests
+// of its session; no read copies the table.
+ghost use mathlib.Core.Path.{_≡_};
+ghost use Prim.Native.Nat.{_<_};
+ghost use Rattle.laws.specs.Cells.{columns, cellAt};
+ghost use Rattle.reads.specs.Table1.{table1, shown};
+ghost use Rattle.reads.specs.Table1Laws.{LawfulRow};
+ghost use Rattle.reads.specs.Session.{sessionRefusal};
+ghost use Rattle.reads.specs.ReadSlot.{SlotRead};
+ghost use Rattle.reads.specs.ReadKey.{KeyRead};
+ghost use Rattle.reads.specs.RollUp.{tallied, RolledUp};
+ghost use Rattle.reads.specs.RollUpLaws.{Bounded};
+use table::Slot;
+use version::Version;
 
 // What a slot or a key read answers: a row, as its two key words and two totals; no row; or a refusal.
 pub enum Seen {
@@ -16,4 +29,183 @@ pub enum Seen {
 pub enum Rolled {
     Sums { count: u32, first: i64, second: i64 },
     Refused(u32),
+}
+
+// The count of rows so far, and the sums of both totals.
+pub struct Tally {
+    pub count: u32,
+    pub first: i64,
+    pub second: i64,
+}
+
+// The cells of Table 1.
+const IGNORE_TUPLE: u8 = 0;
+
+const READ_CURRENT: u8 = 1;
+
+const READ_OLD: u8 = 2;
+
+// Table 1. The first row where the run number is at most the session, the second otherwise; the columns are empty, insert,
+// update, delete.
+const COLUMNS: usize = 4;
+
+const TABLE_1: [u8; 8] = [
+    IGNORE_TUPLE,
+    READ_CURRENT,
+    READ_CURRENT,
+    IGNORE_TUPLE,
+    IGNORE_TUPLE,
+    IGNORE_TUPLE,
+    READ_OLD,
+    READ_OLD,
+];
+
+fn cell_1(seen: bool, column: usize) -> u8
+    requires { ⌜ column < columns ⌝ }
+    ensures { λ r. ⌜ r ≡ cellAt table1 seen column ⌝ }
+{
+    if seen {
+        return TABLE_1[column];
+    }
+    TABLE_1[COLUMNS + column]
+}
+
+// What a session sees of a slot.
+pub fn show(x: Slot, session: i64) -> Seen
+    ensures { λ r. ⌜ r ≡ shown session x ⌝ }
+{
+    let run = x.run;
+    let one = x.key1;
+    let two = x.key2;
+    let cell = cell_1(run <= session, table::column_of(x));
+    if cell == READ_CURRENT {
+        let first = x.current1;
+        let second = x.current2;
+        return Seen::Row {
+            one,
+            two,
+            first,
+            second,
+        };
+    }
+    if cell == READ_OLD {
+        let first = x.old1;
+        let second = x.old2;
+        return Seen::Row {
+            one,
+            two,
+            first,
+            second,
+        };
+    }
+    Seen::NoRow
+}
+
+// The refusals that begin every read's list, 0 for none.
+fn session_refusal(table: &[i64], version: Version, session: i64) -> u32
+    ensures { λ r. ⌜ r ≡ sessionRefusal (now (table .entry)) version session ⌝ }
+{
+    if table::bad_table(table) {
+        return 1;
+    }
+    if version::bad_record(version) {
+        return 2;
+    }
+    if version::is_unborn(version, session) {
+        return 3;
+    }
+    if version::is_expired(version, session) {
+        return 4;
+    }
+    0
+}
+
+// Read a slot.
+pub fn read_slot(table: &[i64], version: Version, session: i64, slot: usize) -> Seen
+    ensures { λ r. ⌜ SlotRead (now (table .entry)) version session slot r ⌝ }
+{
+    let refusal = session_refusal(table, version, session);
+    if refusal != 0 {
+        return Seen::Refused(refusal);
+    }
+    if slot >= table.len() / table::SLOT_WORDS {
+        return Seen::Refused(5);
+    }
+    let x = table::slot_at(table, slot);
+    if !table::well_formed(x, version) {
+        return Seen::Refused(6);
+    }
+    show(x, session)
+}
+
+// Read a key.
+pub fn read_key(table: &[i64], version: Version, session: i64, one: i64, two: i64) -> Seen
+    ensures { λ r. ⌜ KeyRead (now (table .entry)) version session one two r ⌝ }
+{
+    let refusal = session_refusal(table, version, session);
+    if refusal != 0 {
+        return Seen::Refused(refusal);
+    }
+    let x = table::slot_at(table, table::key_slot(table, one, two));
+    if !table::well_formed(x, version) {
+        return Seen::Refused(6);
+    }
+    show(x, session)
+}
+
+// The tally with what a session sees of one slot more: a row with that first key word counts.
+fn tally_slot(tally: Tally, x: Slot, session: i64, one: i64) -> Tally
+    requires { ⌜ LawfulRow (shown session x) ⌝ }
+    requires { ⌜ Bounded 1023 tally ⌝ }
+    ensures { λ r. ⌜ r ≡ tallied one (shown session x) tally ⌝ }
+{
+    match show(x, session) {
+        Seen::Row {
+            one: key1,
+            two: _,
+            first,
+            second,
+        } => {
+            if key1 != one {
+                return tally;
+            }
+            Tally {
+                count: tally.count + 1,
+                first: tally.first + first,
+                second: tally.second + second,
+            }
+        }
+        Seen::NoRow => tally,
+        Seen::Refused(_) => tally,
+    }
+}
+
+// Roll-up, in one pass: each slot is tested, and then counted.
+pub fn roll_up(table: &[i64], version: Version, session: i64, one: i64) -> Rolled
+    ensures { λ r. ⌜ RolledUp (now (table .entry)) version session one r ⌝ }
+{
+    let refusal = session_refusal(table, version, session);
+    if refusal != 0 {
+        return Rolled::Refused(refusal);
+    }
+    let slots = table.len() / table::SLOT_WORDS;
+    let mut tally = Tally {
+        count: 0,
+        first: 0,
+        second: 0,
+    };
+    let mut k: usize = 0;
+    while k < slots {
+        let x = table::slot_at(table, k);
+        if !table::well_formed(x, version) {
+            return Rolled::Refused(6);
+        }
+        tally = tally_slot(tally, x, session, one);
+        k += 1;
+    }
+    Rolled::Sums {
+        count: tally.count,
+        first: tally.first,
+        second: tally.second,
+    }
 }
