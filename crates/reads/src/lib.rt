@@ -1,8 +1,13 @@
-// What a session reads: Table 1, and the three reads: of a slot, of a key, and the roll-up. Every read begins with the tests
-// of its session; no read copies the table.
+// What a session reads: Table 1, and the three reads, of a slot, of a key, and the roll-up. Each read begins with the tests of
+// its session, and walks the table at most once. `show` is a leaf for our other crates.
 ghost use mathlib.Core.Path.{_≡_};
+ghost use mathlib.Core.Bool.{false};
+ghost use mathlib.Core.List.{[], _∷_};
 ghost use Prim.Native.Nat.{_<_};
+ghost use Rattle.laws.specs.First.{first, unless};
 ghost use Rattle.laws.specs.Cells.{columns, cellAt};
+ghost use Rattle.version.specs.Record.{badRecord};
+ghost use Rattle.table.specs.Formed.{broken};
 ghost use Rattle.reads.specs.Table1.{table1, shown};
 ghost use Rattle.reads.specs.Table1Laws.{LawfulRow};
 ghost use Rattle.reads.specs.Session.{sessionRefusal};
@@ -45,19 +50,18 @@ const READ_CURRENT: u8 = 1;
 
 const READ_OLD: u8 = 2;
 
-// Table 1. The first row where the run number is at most the session, the second otherwise; the columns are empty, insert,
-// update, delete.
+// Table 1: a row for the sessions from the slot's run number on, then a row for those before it; in each the four columns.
 const COLUMNS: usize = 4;
 
 const TABLE_1: [u8; 8] = [
-    IGNORE_TUPLE,
-    READ_CURRENT,
-    READ_CURRENT,
-    IGNORE_TUPLE,
-    IGNORE_TUPLE,
-    IGNORE_TUPLE,
-    READ_OLD,
-    READ_OLD,
+    IGNORE_TUPLE, // empty, from its run on
+    READ_CURRENT, // insert, from its run on
+    READ_CURRENT, // update, from its run on
+    IGNORE_TUPLE, // delete, from its run on
+    IGNORE_TUPLE, // empty, before its run
+    IGNORE_TUPLE, // insert, before its run
+    READ_OLD, // update, before its run
+    READ_OLD, // delete, before its run
 ];
 
 fn cell_1(seen: bool, column: usize) -> u8
@@ -111,13 +115,26 @@ fn session_refusal(table: &[i64], version: Version, session: i64) -> u32
     if version::bad_record(version) {
         return 2;
     }
-    if version::is_unborn(version, session) {
+    let unborn = version::is_unborn(version, session);
+    let expired = version::is_expired(version, session);
+    if unborn {
         return 3;
     }
-    if version::is_expired(version, session) {
+    if expired {
         return 4;
     }
     0
+}
+
+// What a session is answered of a slot: refusal 6, or what it sees.
+fn show_formed(x: Slot, version: Version, session: i64) -> Seen
+    requires { ⌜ badRecord version ≡ false ⌝ }
+    ensures { λ r. ⌜ r ≡ unless (first ((broken x version, 6) ∷ [])) Seen.Refused (shown session x) ⌝ }
+{
+    if table::well_formed(x, version) {
+        return show(x, session);
+    }
+    Seen::Refused(6)
 }
 
 // Read a slot.
@@ -131,11 +148,7 @@ pub fn read_slot(table: &[i64], version: Version, session: i64, slot: usize) -> 
     if slot >= table.len() / table::SLOT_WORDS {
         return Seen::Refused(5);
     }
-    let x = table::slot_at(table, slot);
-    if !table::well_formed(x, version) {
-        return Seen::Refused(6);
-    }
-    show(x, session)
+    show_formed(table::slot_at(table, slot), version, session)
 }
 
 // Read a key.
@@ -146,11 +159,8 @@ pub fn read_key(table: &[i64], version: Version, session: i64, one: i64, two: i6
     if refusal != 0 {
         return Seen::Refused(refusal);
     }
-    let x = table::slot_at(table, table::key_slot(table, one, two));
-    if !table::well_formed(x, version) {
-        return Seen::Refused(6);
-    }
-    show(x, session)
+    let slot = table::key_slot(table, one, two);
+    show_formed(table::slot_at(table, slot), version, session)
 }
 
 // The tally with what a session sees of one slot more: a row with that first key word counts.

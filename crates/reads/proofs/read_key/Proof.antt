@@ -1,55 +1,55 @@
+-- `reads::read_key` meets its contract. `past4` says which tests are left once the first four have failed, and the answer is
+-- then `show_formed`'s of the key's slot. Assumes nothing.
+use mathlib.Core.Path.{_≡_, sym, _∙_}
+use Prim.Native.Nat.{ℕ}
 use borrow.Author.Needs.{needs}
+use Rattle.laws.specs.Bits.{plain}
+use Rattle.laws.specs.First.{first, after, unless-refused, pass, stop}
+use Rattle.table.specs.Keys.{keyed}
+use Rattle.reads.specs.declared.Seen.the-variants.{Refused}
+use Rattle.reads.specs.Session.{sessionTests, sessionRefusal, Open, opened}
+use Rattle.reads.specs.ReadKey.{readKeyTests, readKeyRefusal, readKeyAnswer}
 use Rattle.reads.proofs.read_key.Statement.{statement}
 use Rattle.reads.proofs.read_key.Tie as tie
-use Rattle.reads.proofs.read_key.Reads as reads
-use Rattle.reads.proofs.read_key.Lts as lts
-use Rattle.reads.proofs.session_refusal.Reads as session-refusal-reads
-use Rattle.reads.proofs.show.Reads as show-reads
-use Rattle.table.proofs.key_slot.Reads as key-slot-reads
-use Rattle.table.proofs.slot_at.Reads as slot-at-reads
-use Rattle.table.proofs.well_formed.Reads as well-formed-reads
 
--- src/lib.rt:145:9
-session-refusal-requires : tie.Need-session-refusal-requires
-session-refusal-requires c κs = search needs
+-- the place past refusal 4, and the start from it
+abbrev P4 : Type 0
+P4 = tie.Else1
 
--- src/lib.rt:147:9
-returns : tie.Need-returns
-returns c = ?
+abbrev s4 : P4 → tie.Start
+s4 c = c .before .before
 
--- src/lib.rt:149:35
-key-slot-requires : tie.Need-key-slot-requires
-key-slot-requires c κs = ?
+-- the first four tests, asked at once
+asked : (c : tie.After-session-refusal) → let a = c .before .args in sessionRefusal (a .table .now) (a .version) (a .session) ≡ c .session-refusal .result
+asked c = sym (rw (plain _ (c .before .fits .session)) at (c .session-refusal .ensures))
 
--- src/lib.rt:149:9
-slot-at-requires : tie.Need-slot-at-requires
-slot-at-requires c κs = ?
+can : (c : P4) → let a = s4 c .args in Open (a .table .now) (a .version) (a .session)
+can c = opened _ _ _ (asked (c .before) ∙ c .if1 .left)
 
--- src/lib.rt:150:9
-well-formed-requires : tie.Need-well-formed-requires
-well-formed-requires c κs = ?
+past4 : (c : P4) → let a = s4 c .args in
+    readKeyRefusal (a .table .now) (a .version) (a .session) (a .one) (a .two)
+    ≡ first (after 4 (readKeyTests (a .table .now) (a .version) (a .session) (a .one) (a .two)))
+unfolding readKeyRefusal sessionRefusal
+past4 c = pass (sessionTests _ _ _) _ tt (asked (c .before) ∙ c .if1 .left)
 
--- src/lib.rt:151:9
-returns-2 : tie.Need-returns-2
-returns-2 c = ?
+-- the slot that was read is the key's
+slot : (c : tie.After-slot-at) → let a = s4 (c .before .before) .args in c .slot-at .result ≡ keyed (a .table .now) (a .one) (a .two)
+slot c =
+    let f = s4 (c .before .before) .fits in
+    rw (c .before .key-slot .ensures, plain _ (f .one), plain _ (f .two)) at (c .slot-at .ensures)
 
--- src/lib.rt:153:5
-show-requires : tie.Need-show-requires
-show-requires c κs = search needs
+is1-to-4 : tie.Need-returns
+unfolding readKeyRefusal readKeyAnswer sessionRefusal
+is1-to-4 c = record { answer = unless-refused Refused _ (stop (sessionTests _ _ _) _ _ (asked (c .before)) (c .if1 .taken)) (c .if1 .taken) }
 
--- src/lib.rt:142:1
-returns-3 : tie.Need-returns-3
-returns-3 c = ?
+shows : tie.Need-returns-2
+unfolding readKeyAnswer
+shows c =
+    let x = c .before in
+    let p = x .before .before in
+    record { answer = rw (past4 p) (rw (plain _ (s4 p .fits .session), slot x) at (c .show-formed .ensures)) }
 
 pub read-key-spec : {M : Type 1} → statement M
 read-key-spec =
     tie.close
-    (tie.spec
-    session-refusal-requires
-    returns
-    key-slot-requires
-    slot-at-requires
-    well-formed-requires
-    returns-2
-    show-requires
-    returns-3)
+    (tie.spec (λ c κs. search needs) is1-to-4 (λ c κs. can c .table) (λ c κs. can (c .before) .table) (λ c κs. can (c .before .before) .known) shows)

@@ -1,54 +1,68 @@
+-- `reads::read_slot` meets its contract. `pastN` says which tests are left once that of refusal N has failed; a refusal is the
+-- last of these and the test that holds, and past 5 the answer is `show_formed`'s. Assumes nothing.
+use mathlib.Core.Path.{_≡_, sym, ap, _∙_}
+use mathlib.Core.Bool.{not}
+use Prim.Native.Nat.{ℕ}
+use native.Mathlib.Omega.{arith}
 use borrow.Author.Needs.{needs}
+use borrow.Author.Tests.{lt-ltb, le-ltb}
+use Rattle.laws.specs.Bits.{plain}
+use Rattle.laws.specs.First.{first, after, unless-refused, skip, hit, pass, stop}
+use Rattle.reads.specs.declared.Seen.the-variants.{Refused}
+use Rattle.reads.specs.Session.{sessionTests, sessionRefusal, Open, opened}
+use Rattle.reads.specs.ReadSlot.{readSlotTests, readSlotRefusal, readSlotAnswer}
 use Rattle.reads.proofs.read_slot.Statement.{statement}
 use Rattle.reads.proofs.read_slot.Tie as tie
-use Rattle.reads.proofs.read_slot.Reads as reads
-use Rattle.reads.proofs.read_slot.Lts as lts
-use Rattle.reads.proofs.session_refusal.Reads as session-refusal-reads
-use Rattle.reads.proofs.show.Reads as show-reads
-use Rattle.table.proofs.slot_at.Reads as slot-at-reads
-use Rattle.table.proofs.well_formed.Reads as well-formed-reads
 
--- src/lib.rt:127:9
-session-refusal-requires : tie.Need-session-refusal-requires
-session-refusal-requires c κs = search needs
+-- the places past each test, by the refusal's number, and the start from each
+abbrev P4 : Type 0
+P4 = tie.Else1
 
--- src/lib.rt:129:9
-returns : tie.Need-returns
-returns c = ?
+abbrev P5 : Type 0
+P5 = tie.Else2
 
--- src/lib.rt:132:9
-returns-2 : tie.Need-returns-2
-returns-2 c = ?
+abbrev s4 : P4 → tie.Start
+s4 c = c .before .before
 
--- src/lib.rt:134:9
-slot-at-requires : tie.Need-slot-at-requires
-slot-at-requires c κs = ?
+abbrev s5 : P5 → tie.Start
+s5 c = s4 (c .before)
 
--- src/lib.rt:135:9
-well-formed-requires : tie.Need-well-formed-requires
-well-formed-requires c κs = ?
+-- the refusal is that of the tests after number n
+abbrev Past : ℕ → tie.Start → Type 0
+Past n s =
+    let a = s .args in
+    readSlotRefusal (a .table .now) (a .version) (a .session) (a .slot)
+    ≡ first (after n (readSlotTests (a .table .now) (a .version) (a .session) (a .slot)))
 
--- src/lib.rt:136:9
-returns-3 : tie.Need-returns-3
-returns-3 c = ?
+-- the first four tests, asked at once
+asked : (c : tie.After-session-refusal) → let a = c .before .args in sessionRefusal (a .table .now) (a .version) (a .session) ≡ c .session-refusal .result
+asked c = sym (rw (plain _ (c .before .fits .session)) at (c .session-refusal .ensures))
 
--- src/lib.rt:138:5
-show-requires : tie.Need-show-requires
-show-requires c κs = search needs
+can : (c : P4) → let a = s4 c .args in Open (a .table .now) (a .version) (a .session)
+can c = opened _ _ _ (asked (c .before) ∙ c .if1 .left)
 
--- src/lib.rt:124:1
-returns-4 : tie.Need-returns-4
-returns-4 c = ?
+past4 : (c : P4) → Past 4 (s4 c)
+unfolding readSlotRefusal sessionRefusal
+past4 c = pass (sessionTests _ _ _) _ tt (asked (c .before) ∙ c .if1 .left)
+
+past5 : (c : P5) → Past 5 (s5 c)
+past5 c = past4 (c .before) ∙ skip _ _ (ap not (lt-ltb _ _ (c .if2 .left)))
+
+is1-to-4 : tie.Need-returns
+unfolding readSlotRefusal readSlotAnswer sessionRefusal
+is1-to-4 c = record { answer = unless-refused Refused _ (stop (sessionTests _ _ _) _ _ (asked (c .before)) (c .if1 .taken)) (c .if1 .taken) }
+
+is5 : tie.Need-returns-2
+unfolding readSlotAnswer
+is5 c = record { answer = unless-refused Refused _ (past4 (c .before) ∙ hit _ (ap not (le-ltb _ _ (c .if2 .taken)))) (omega arith) }
+
+shows : tie.Need-returns-3
+unfolding readSlotAnswer
+shows c =
+    let x = c .before in
+    let p = x .before in
+    record { answer = rw (past5 p) (rw (plain _ (s5 p .fits .session), x .slot-at .ensures) at (c .show-formed .ensures)) }
 
 pub read-slot-spec : {M : Type 1} → statement M
 read-slot-spec =
-    tie.close
-    (tie.spec
-    session-refusal-requires
-    returns
-    returns-2
-    slot-at-requires
-    well-formed-requires
-    returns-3
-    show-requires
-    returns-4)
+    tie.close (tie.spec (λ c κs. search needs) is1-to-4 is5 (λ c κs. can (c .before) .table) (λ c κs. can (c .before .before) .known) shows)

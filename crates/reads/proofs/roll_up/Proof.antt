@@ -1,76 +1,122 @@
+-- `reads::roll_up` meets its contract. The invariant: the tally is that of the first k slots, and each of them is well formed,
+-- so that the tally is within its bounds (`tally-bounded`). `pastN` says which tests are left once that of refusal N has
+-- failed. Assumes nothing.
+use Prim.Native.Nat.{ℕ, _≤_, _<_, _-_}
+use mathlib.Core.Path.{_≡_, refl, sym, ap, _∙_}
+use mathlib.Core.Bool.{false, not}
+use native.Mathlib.Numerals.{add-one}
+use native.Mathlib.Omega.{arith}
+use mir.Syntax.{w64}
+use mir.Val.{SFits, toZ}
+use borrow.Author.Needs.{needs}
+use Rattle.laws.specs.Tests.{by-test, clash, not-yes, not-no}
+use Rattle.laws.specs.Bits.{plain}
+use Rattle.laws.specs.First.{first, after, unless-refused, unless-done, skip, hit, done, pass, stop}
+use Rattle.laws.specs.Lowest.{below-next}
+use Rattle.table.specs.Slots.{slots, slotAt}
+use Rattle.table.specs.SlotLaws.{lengths}
+use Rattle.table.specs.Formed.{broken}
+use Rattle.table.specs.FormedLaws.{none-broken, all-formed}
+use Rattle.reads.specs.declared.Rolled.the-variants.{Refused}
+use Rattle.reads.specs.Session.{sessionTests, sessionRefusal, Open, opened}
+use Rattle.reads.specs.Table1Laws.{shown-lawful}
+use Rattle.reads.specs.RollUp.{tally, seen, sums, rollUpTests, rollUpRefusal, rollUpAnswer}
+use Rattle.reads.specs.RollUpLaws.{bounded-more, tally-bounded}
 use Rattle.reads.proofs.roll_up.Statement.{statement}
 use Rattle.reads.proofs.roll_up.Tie as tie
-use Rattle.reads.proofs.roll_up.Reads as reads
-use Rattle.reads.proofs.roll_up.Lts as lts
-use Rattle.reads.proofs.session_refusal.Reads as session-refusal-reads
-use Rattle.reads.proofs.tally_slot.Reads as tally-slot-reads
-use Rattle.table.proofs.slot_at.Reads as slot-at-reads
-use Rattle.table.proofs.well_formed.Reads as well-formed-reads
 
 abbrev Inv-loop : tie.InvT-loop
-Inv-loop table version session one refusal slots tally₀ k₀ tally k = ?
+Inv-loop table version session one refusal slots n₀ k₀ n k =
+    (k ≤ slots) × (n ≡ tally (toZ w64 one) (seen table (toZ w64 session) k)) × ((j : ℕ) → j < k → broken (slotAt table j) version ≡ false)
 
 abbrev μ-loop : tie.MeasureT-loop
-μ-loop table version session one refusal slots tally₀ k₀ tally k = ?
+μ-loop table version session one refusal slots n₀ k₀ n k = slots - k
 
--- src/lib.rt:186:9
-session-refusal-requires : tie.Need-session-refusal-requires Inv-loop μ-loop
-session-refusal-requires c κs = ?
+-- the place past refusal 4, and the start from it
+abbrev P4 : Type 0
+P4 = tie.Else1 Inv-loop μ-loop
 
--- src/lib.rt:188:9
-returns : tie.Need-returns Inv-loop μ-loop
-returns c = ?
+abbrev s4 : P4 → tie.Start Inv-loop μ-loop
+s4 c = c .before .before
 
--- src/lib.rt:197:5
-loop-holds : tie.Need-loop-holds Inv-loop μ-loop
-loop-holds c = ?
+-- the refusal is that of the tests after number n
+abbrev Past : ℕ → tie.Start Inv-loop μ-loop → Type 0
+Past n s =
+    let a = s .args in
+    rollUpRefusal (a .table .now) (a .version) (a .session) ≡ first (after n (rollUpTests (a .table .now) (a .version) (a .session)))
 
--- src/lib.rt:198:13
-slot-at-requires : tie.Need-slot-at-requires Inv-loop μ-loop
-slot-at-requires c κs = ?
+-- the first four tests, asked at once
+asked : (c : tie.After-session-refusal Inv-loop μ-loop) → let a = c .before .args in sessionRefusal (a .table .now) (a .version) (a .session) ≡ c .session-refusal .result
+asked c = sym (rw (plain _ (c .before .fits .session)) at (c .session-refusal .ensures))
 
--- src/lib.rt:199:13
-well-formed-requires : tie.Need-well-formed-requires Inv-loop μ-loop
-well-formed-requires c κs = ?
+can : (c : P4) → let a = s4 c .args in Open (a .table .now) (a .version) (a .session)
+can c = opened _ _ _ (asked (c .before) ∙ c .if1 .left)
 
--- src/lib.rt:200:13
-returns-2 : tie.Need-returns-2 Inv-loop μ-loop
-returns-2 c = ?
+past4 : (c : P4) → Past 4 (s4 c)
+unfolding rollUpRefusal sessionRefusal
+past4 c = pass (sessionTests _ _ _) _ tt (asked (c .before) ∙ c .if1 .left)
 
--- src/lib.rt:202:9
-tally-slot-requires : tie.Need-tally-slot-requires Inv-loop μ-loop
-tally-slot-requires c κs = ?
+-- the slot at k was tested
+tested : (c : tie.After-well-formed Inv-loop μ-loop) → let l = c .before .before .before in
+    not (c .well-formed .result) ≡ broken (slotAt (s4 (l .before) .args .table .now) (l .loop .k)) (s4 (l .before) .args .version)
+tested c = ap not (rw (c .before .slot-at .ensures) at (c .well-formed .ensures))
 
--- src/lib.rt:203:9
-add-k : tie.Need-add-k Inv-loop μ-loop
-add-k c = ?
+is1-to-4 : tie.Need-returns Inv-loop μ-loop
+unfolding rollUpRefusal rollUpAnswer sessionRefusal
+is1-to-4 c = record { answer = unless-refused Refused _ (stop (sessionTests _ _ _) _ _ (asked (c .before)) (c .if1 .taken)) (c .if1 .taken) }
 
--- src/lib.rt:197:5
-loop-less : tie.Need-loop-less Inv-loop μ-loop
-loop-less c = ?
+is6 : tie.Need-returns-2 Inv-loop μ-loop
+unfolding rollUpAnswer
+is6 c =
+    let w = c .before in
+    let l = w .before .before .before in
+    let h = sym (tested w) ∙ c .if2 .taken in
+    record { answer = unless-refused Refused _ (past4 (l .before) ∙ hit _ (by-test _ (λ y. y) (λ n. clash (none-broken _ _ n _ (omega arith)) (not-yes h)))) (omega arith) }
 
--- src/lib.rt:197:5
-loop-again : tie.Need-loop-again Inv-loop μ-loop
-loop-again c = ?
+-- the tally so far is of fewer than 1,024 rows
+small : tie.Need-tally-slot-requires Inv-loop μ-loop
+small c κs =
+    let x = c .before .before in
+    let l = x .before .before in
+    let few = lengths _ (can (l .before) .table) .few in
+    let bounds = tally-bounded _ _ _ _ (l .loop .k) (λ j h. not-no (l .loop .inv .2 j h)) in
+    (rw (x .slot-at .ensures) (shown-lawful _ _ _ (not-no (sym (tested (c .before)) ∙ c .if2 .left))), rw (l .loop .inv .1) (bounded-more (omega arith) bounds))
 
--- src/lib.rt:183:1
-returns-3 : tie.Need-returns-3 Inv-loop μ-loop
-returns-3 c = ?
+again : tie.Need-loop-again Inv-loop μ-loop
+again c =
+    let e = c .before in
+    let x = e .before .before in
+    let l = x .before .before in
+    let a = s4 (l .before) .args in (
+      omega arith,
+      rw (add-one (l .loop .k)) (rw (x .slot-at .ensures, l .loop .inv .1) at (c .tally-slot .ensures)),
+      below-next {p = λ j. broken (slotAt (a .table .now) j) (a .version)} (l .loop .inv .2) (sym (tested (e .before)) ∙ e .if2 .left),
+    )
+
+-- past the last slot the tally is that of all
+whole : (c : tie.After-loop Inv-loop μ-loop) → let a = s4 (c .before .before) .args in c .before .loop .tally ≡ tally (a .one) (seen (a .table .now) (a .session) (slots (a .table .now)))
+whole c =
+    let l = c .before in
+    let s = s4 (l .before) in
+    let e : l .loop .k ≡ slots (s .args .table .now) = omega arith in
+    rw (plain _ (s .fits .one), plain _ (s .fits .session), e) at (l .loop .inv .1)
+
+past6 : (c : tie.After-loop Inv-loop μ-loop) → Past 6 (s4 (c .before .before))
+past6 c =
+    let l = c .before in
+    past4 (l .before) ∙ skip _ _ (all-formed _ _ (λ j h. not-no (l .loop .inv .2 j (omega arith))))
+
+rolls : tie.Need-returns-3 Inv-loop μ-loop
+unfolding rollUpAnswer
+rolls c =
+    let n = c .before .before .loop .tally in
+    let first-fits : SFits w64 (n .first) = search needs in
+    let second-fits : SFits w64 (n .second) = search needs in
+    record { answer = unless-done Refused (past6 (c .before) ∙ done) (rw (plain _ first-fits, plain _ second-fits) (ap sums (whole (c .before)))) }
 
 pub roll-up-spec : {M : Type 1} → statement M
 roll-up-spec =
     tie.close
-    (tie.spec
-    Inv-loop
-    μ-loop
-    session-refusal-requires
-    returns
-    loop-holds
-    slot-at-requires
-    well-formed-requires
-    returns-2
-    tally-slot-requires
-    add-k
-    loop-less
-    loop-again
-    returns-3)
+    (tie.spec Inv-loop μ-loop (λ c κs. search needs) is1-to-4 (λ c. (omega arith, refl, λ j h. absurd (omega arith)))
+    (λ c κs. can (c .before .before) .table) (λ c κs. can (c .before .before .before) .known) is6 small
+    (λ c. omega arith) (λ c. omega arith) again rolls)
