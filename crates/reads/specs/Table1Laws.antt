@@ -1,4 +1,5 @@
--- The laws of Table 1, one for each sentence of the document. Each is one cell. Assumes nothing.
+-- The laws of Table 1, one for each sentence of the document: each is one cell. And one of its totals: what is shown of a well
+-- formed slot is lawful, since either pair of totals is. Assumes nothing.
 use mathlib.Core.Path.{_≡_, refl}
 use mathlib.Core.Bool.{true, false}
 use Prim.Native.Nat.{ℕ}

@@ -1,7 +1,6 @@
 -- `reads::read_key` meets its contract. `past4` says which tests are left once the first four have failed, and the answer is
 -- then `show_formed`'s of the key's slot. Assumes nothing.
 use mathlib.Core.Path.{_≡_, sym, _∙_}
-use Prim.Native.Nat.{ℕ}
 use borrow.Author.Needs.{needs}
 use Rattle.laws.specs.Bits.{plain}
 use Rattle.laws.specs.First.{first, after, unless-refused, pass, stop}
@@ -36,7 +35,7 @@ past4 c = pass (sessionTests _ _ _) _ tt (asked (c .before) ∙ c .if1 .left)
 slot : (c : tie.After-slot-at) → let a = s4 (c .before .before) .args in c .slot-at .result ≡ keyed (a .table .now) (a .one) (a .two)
 slot c =
     let f = s4 (c .before .before) .fits in
-    rw (c .before .key-slot .ensures, plain _ (f .one), plain _ (f .two)) at (c .slot-at .ensures)
+    simp (c .before .key-slot .ensures, plain _ (f .one), plain _ (f .two)) at (c .slot-at .ensures)
 
 is1-to-4 : tie.Need-returns
 unfolding readKeyRefusal readKeyAnswer sessionRefusal

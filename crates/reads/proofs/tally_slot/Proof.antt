@@ -59,12 +59,12 @@ other c = let b = c .before in rw (row b, isnt _ _ (key1-fits b) (start b .fits 
 add-first : tie.Need-add-t12
 add-first c =
     let b = c .before .before .before .before in
-    rw (plain _ (before b .first), plain _ (first-fits b)) (after b .first)
+    simp (plain _ (before b .first), plain _ (first-fits b)) (after b .first)
 
 add-second : tie.Need-add-t13
 add-second c =
     let b = c .before .before .before .before .before .before in
-    rw (plain _ (before b .second), plain _ (second-fits b)) (after b .second)
+    simp (plain _ (before b .second), plain _ (second-fits b)) (after b .second)
 
 count : tie.Need-returns-2
 count c =
