@@ -16,7 +16,7 @@ use Rattle.reads.specs.declared.Seen.{Seen}
 use Rattle.reads.specs.declared.Seen.the-variants.{Row, NoRow, Refused}
 use Rattle.reads.specs.declared.Rolled.{Rolled}
 use Rattle.reads.specs.declared.Rolled.the-variants as rolled
-use Rattle.reads.specs.declared.Tally.{Tally}
+pub use Rattle.reads.specs.declared.Tally.{Tally}
 use Rattle.reads.specs.Table1.{shown}
 
 -- a tally is the count of rows and the sums of both totals

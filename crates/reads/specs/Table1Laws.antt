@@ -1,24 +1,22 @@
--- The laws of Table 1, one for each sentence of the document: each is one cell. And one of its totals: what is shown of a well
--- formed slot is lawful, since either pair of totals is. Assumes nothing.
+-- The laws of Table 1, one for each sentence of the document: each is one cell. And one of totals: those of a row that is
+-- shown of a well formed slot are lawful, since both its pairs are. Assumes nothing.
 use mathlib.Core.Path.{_≡_, refl}
 use mathlib.Core.Bool.{true, false}
-use Prim.Native.Nat.{ℕ}
-use lib.Dec.{eqb}
 use lib.IntN.{ℤ}
 use lib.Signed.{leZ}
-use Rattle.laws.specs.Tests.{by-test}
 use Rattle.laws.specs.Cells.{cellAt}
 use Rattle.version.specs.declared.Version.{Version}
 use Rattle.table.specs.declared.Slot.{Slot}
 use Rattle.table.specs.Slots.{empty}
-use Rattle.table.specs.Operations.{insertOperation, updateOperation, deleteOperation, column, live}
+use Rattle.table.specs.Operations.{insertOperation, updateOperation, deleteOperation, live}
 use Rattle.table.specs.OperationLaws.{live-cases, column-empty, column-insert, column-update, column-delete}
 use Rattle.table.specs.TotalLaws.{Given}
 use Rattle.table.specs.Formed.{wellFormed}
-use Rattle.table.specs.FormedLaws.{Used, formed-cases}
+use Rattle.table.specs.FormedLaws.{formed-cases}
 use Rattle.reads.specs.declared.Seen.{Seen}
 use Rattle.reads.specs.declared.Seen.the-variants.{Row, NoRow, Refused}
-use Rattle.reads.specs.Table1.{readCurrent, readOld, table1, currentRow, oldRow, readCell, shown}
+use Rattle.reads.specs.Table1.{table1, currentRow, oldRow, readCell, shown}
+use Rattle.reads.specs.ShownLaws.{shown-cases}
 
 -- ---- run number ≤ session: current totals, or no row if deleted
 pub shown-current : (s : ℤ) (x : Slot) → leZ (x .run) s ≡ true → live x ≡ true → shown s x ≡ currentRow x
@@ -58,11 +56,7 @@ LawfulRow (Row one two a b) = Given a b
 LawfulRow NoRow = Unit {0}
 LawfulRow (Refused n) = Unit {0}
 
-cell-lawful : (cell : ℕ) (x : Slot) (v : Version) → Used x v → LawfulRow (readCell cell x)
-cell-lawful cell x v u =
-    by-test (eqb cell readCurrent) (λ y. rw y (record { first = u .current1; second = u .current2 }))
-    (λ n. by-test (eqb cell readOld) (λ y. rw (n, y) (record { first = u .old1; second = u .old2 })) (λ m. rw (n, m) tt))
-
 pub shown-lawful : (s : ℤ) (x : Slot) (v : Version) → wellFormed x v ≡ true → LawfulRow (shown s x)
-unfolding shown
-shown-lawful s x v w = formed-cases x v w (λ e. rw (e, shown-empty s) tt) (λ u. cell-lawful (cellAt table1 (leZ (x .run) s) (column x)) x v u)
+shown-lawful s x v w =
+    formed-cases x v w (λ e. rw (e, shown-empty s) tt)
+    (λ u. shown-cases LawfulRow s x (λ n. record { first = u .current1; second = u .current2 }) (λ n. record { first = u .old1; second = u .old2 }) tt)

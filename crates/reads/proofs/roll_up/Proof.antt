@@ -3,20 +3,22 @@
 -- failed. Assumes nothing.
 use Prim.Native.Nat.{ℕ, _≤_, _<_, _-_}
 use mathlib.Core.Path.{_≡_, refl, sym, ap, _∙_}
-use mathlib.Core.Bool.{false, not}
+use mathlib.Core.Bool.{true, false, not}
 use native.Mathlib.Numerals.{add-one}
 use native.Mathlib.Omega.{arith}
+use lib.Dec.{ltb}
 use mir.Syntax.{w64}
 use mir.Val.{SFits, toZ}
 use borrow.Author.Needs.{needs}
+use borrow.Author.Tests.{ltb-true, ltb-false}
 use Rattle.laws.specs.Tests.{by-test, clash, not-yes, not-no}
 use Rattle.laws.specs.Bits.{plain}
 use Rattle.laws.specs.First.{first, after, unless-refused, unless-done, skip, hit, done, pass, stop}
 use Rattle.laws.specs.Lowest.{below-next}
 use Rattle.table.specs.Slots.{slots, slotAt}
-use Rattle.table.specs.SlotLaws.{lengths}
-use Rattle.table.specs.Formed.{broken}
-use Rattle.table.specs.FormedLaws.{none-broken, all-formed}
+use Rattle.table.specs.SlotLaws.{lengths, slotAt-past}
+use Rattle.table.specs.Formed.{wellFormed, broken}
+use Rattle.table.specs.FormedLaws.{empty-formed, none-broken, all-formed}
 use Rattle.reads.specs.declared.Rolled.the-variants.{Refused}
 use Rattle.reads.specs.Session.{sessionTests, sessionRefusal, Open, opened}
 use Rattle.reads.specs.Table1Laws.{shown-lawful}
@@ -101,10 +103,15 @@ whole c =
     let e : l .loop .k ≡ slots (s .args .table .now) = omega arith in
     rw (plain _ (s .fits .one), plain _ (s .fits .session), e) at (l .loop .inv .1)
 
-past6 : (c : tie.After-loop Inv-loop μ-loop) → Past 6 (s4 (c .before .before))
-past6 c =
+-- and each slot is well formed: those that were passed, and past the end the empty one
+formed : (c : tie.After-loop Inv-loop μ-loop) (j : ℕ) → let a = s4 (c .before .before) .args in wellFormed (slotAt (a .table .now) j) (a .version) ≡ true
+formed c j =
     let l = c .before in
-    past4 (l .before) ∙ skip _ _ (all-formed _ _ (λ j h. not-no (l .loop .inv .2 j (omega arith))))
+    by-test (ltb j (l .loop .k)) (λ y. not-no (l .loop .inv .2 j (ltb-true _ _ y)))
+    (λ n. rw (slotAt-past _ j (can (l .before) .table) (omega (arith, ltb-false j (l .loop .k) n))) (empty-formed _))
+
+past6 : (c : tie.After-loop Inv-loop μ-loop) → Past 6 (s4 (c .before .before))
+past6 c = past4 (c .before .before) ∙ skip _ _ (all-formed _ _ (formed c))
 
 rolls : tie.Need-returns-3 Inv-loop μ-loop
 unfolding rollUpAnswer
