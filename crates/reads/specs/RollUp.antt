@@ -16,10 +16,13 @@ use Rattle.reads.specs.declared.Seen.{Seen}
 use Rattle.reads.specs.declared.Seen.the-variants.{Row, NoRow, Refused}
 use Rattle.reads.specs.declared.Rolled.{Rolled}
 use Rattle.reads.specs.declared.Rolled.the-variants as rolled
-pub use Rattle.reads.specs.declared.Tally.{Tally}
+use Rattle.reads.specs.declared.Tally as declared
 use Rattle.reads.specs.Table1.{shown}
 
--- a tally is the count of rows and the sums of both totals
+-- the count of rows and the sums of both totals
+abbrev pub Tally : Type 0
+Tally = declared.Tally
+
 abbrev pub nothing : Tally
 nothing = record { count = 0; first = pos 0; second = pos 0 }
 

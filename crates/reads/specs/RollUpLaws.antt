@@ -17,10 +17,9 @@ use Rattle.table.specs.TotalLaws.{Given, largestTotal, lawful-within}
 use Rattle.table.specs.Formed.{wellFormed}
 use Rattle.reads.specs.declared.Seen.{Seen}
 use Rattle.reads.specs.declared.Seen.the-variants.{Row, NoRow, Refused}
-use Rattle.reads.specs.declared.Tally.{Tally}
 use Rattle.reads.specs.Table1.{shown}
 use Rattle.reads.specs.Table1Laws.{LawfulRow, shown-lawful}
-use Rattle.reads.specs.RollUp.{counted, tallied, tally, seen}
+use Rattle.reads.specs.RollUp.{Tally, counted, tallied, tally, seen}
 
 -- a tally of at most k rows
 pub record Bounded (k : ℕ) (n : Tally) : Type 0 where
