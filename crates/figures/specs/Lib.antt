@@ -1,2 +1,3 @@
 pub mod Cases
 pub mod Figures
+pub mod Worked
