@@ -10,3 +10,5 @@ pub mod Running
 pub mod Insert
 pub mod Update
 pub mod Delete
+pub mod FoundLaws
+pub mod PlacedLaws

@@ -1,0 +1,32 @@
+-- `changes::delete` meets its contract: its list of tests is those of `running_refusal`, then those of `change_row`. Assumes
+-- nothing.
+use mathlib.Core.Path.{_≡_, sym, _∙_}
+use borrow.Author.Needs.{needs}
+use Rattle.laws.specs.First.{pass, stop}
+use Rattle.laws.specs.Bits.{plain}
+use Rattle.changes.specs.Running.{runningTests, runningRefusal, running}
+use Rattle.changes.specs.Delete.{deleteRefusal}
+use Rattle.changes.specs.PlacedLaws.{refused, passed, delete-leaves}
+use Rattle.changes.proofs.delete.Statement.{statement}
+use Rattle.changes.proofs.delete.Tie as tie
+
+past8 : (c : tie.Else1) → let a = c .before .before .before .args in runningRefusal (a .table .now) (a .version) ≡ 0
+past8 c = sym (c .before .running-refusal .ensures) ∙ c .if1 .left
+
+stops : tie.Need-returns
+unfolding deleteRefusal runningRefusal
+stops c = delete-leaves (refused (stop (runningTests _ _) _ _ (sym (c .before .running-refusal .ensures)) (c .if1 .taken)) (c .if1 .taken))
+
+rest : tie.Need-returns-2
+unfolding deleteRefusal runningRefusal
+rest c =
+    let e = c .before .before .before in
+    let f = e .before .before .before .fits in
+    let w = rw (plain _ (f .one), plain _ (f .two)) at (c .before .change-row .ensures) in
+    delete-leaves (passed (pass (runningTests _ _) _ tt (past8 e)) (w .leaves))
+
+pub delete-spec : {M : Type 1} → statement M
+delete-spec =
+    tie.close
+    (tie.spec (λ c κs. search needs) (λ c. search needs) stops
+    (λ c κs. let r = running _ _ (past8 (c .before)) in (r .table, r .known)) (λ c. search needs) rest)

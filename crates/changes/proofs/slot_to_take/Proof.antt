@@ -1,0 +1,11 @@
+-- `changes::slot_to_take` meets its contract: the one test is the definition's. Assumes nothing.
+use borrow.Author.Needs.{needs}
+use borrow.Author.Tests.{lt-ltb, le-ltb}
+use Rattle.changes.proofs.slot_to_take.Statement.{statement}
+use Rattle.changes.proofs.slot_to_take.Tie as tie
+
+pub slot-to-take-spec : {M : Type 1} → statement M
+slot-to-take-spec =
+    tie.close
+    (tie.spec (λ c. simp (lt-ltb _ _ (c .if1 .taken))) (λ c κs. search needs)
+    (λ c. simp (le-ltb _ _ (c .before .if1 .left), c .free-slot .ensures)))
