@@ -5,8 +5,9 @@ use mathlib.Core.Bool.{true, false}
 use mathlib.Core.List.{List, [], _∷_}
 use Prim.Native.Nat.{ℕ, zero, suc, _≤_, _<_}
 use native.Mathlib.Omega.{arith}
+use lib.Dec.{T}
 use lib.IntN.{ℤ, pos, negsuc, natAbs}
-use lib.Signed.{leZ}
+use lib.Signed.{leZ, nonNeg}
 use lib.ListN.{getD, replicate}
 use borrow.Author.Tests.{leb-true, le-leb}
 use Rattle.laws.specs.Tests.{any, clash}
@@ -26,14 +27,18 @@ use Rattle.blocks.specs.Headers.{headerWords, headerWrong, headerOf}
 use Rattle.blocks.specs.SaveHeader.{saveHeaderRefusal, saveHeaderBlock}
 
 -- a lawful version is a number of its own size
-record Natural (c : ℤ) : Type 0 where
-  back : pos (natAbs c) ≡ c
-  small : natAbs c ≤ natAbs largestVersion
-  lawful : fromTo (pos 1) largestVersion (pos (natAbs c)) ≡ true
+pub record Natural (c : ℤ) : Type 0 where
+  pub positive : T (nonNeg c)
+  pub back : pos (natAbs c) ≡ c
+  pub small : natAbs c ≤ natAbs largestVersion
+  pub lawful : fromTo (pos 1) largestVersion (pos (natAbs c)) ≡ true
 
 natural : (c : ℤ) → leZ (pos 1) c ≡ true → leZ c largestVersion ≡ true → Natural c
-natural (pos n) l h = record { back = refl; small = leb-true n (natAbs largestVersion) h; lawful = rw (l, h) }
+natural (pos n) l h = record { positive = tt; back = refl; small = leb-true n (natAbs largestVersion) h; lawful = rw (l, h) }
 natural (negsuc n) l h = clash l refl
+
+pub current-natural : (v : Version) → badRecord v ≡ false → Natural (v .current)
+current-natural v known = let s = sound known in natural (v .current) (s .low) (s .high)
 
 -- ---- a save that is not refused
 module _ (t : List ℤ) (v : Version) (allowed : saveHeaderRefusal t v ≡ 0) where
@@ -46,7 +51,7 @@ module _ (t : List ℤ) (v : Version) (allowed : saveHeaderRefusal t v ≡ 0) wh
   record-sound = none _ tt allowed 2
 
   current : Natural (v .current)
-  current = let s = sound record-sound in natural (v .current) (s .low) (s .high)
+  current = current-natural v record-sound
 
   -- the block is that of the header's words
   pub header-saved : saveHeaderBlock t v ≡ blockOf (headerWords t v)

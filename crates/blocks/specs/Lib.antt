@@ -7,6 +7,10 @@ pub mod LoadHeader
 pub mod LoadBlock
 pub mod Groups
 pub mod WordLaws
+pub mod WrittenLaws
+pub mod LongLaws
+pub mod FrontLaws
+pub mod ContractLaws
 pub mod HeaderLaws
 pub mod SlotBlockLaws
 pub mod LoadedLaws

@@ -2,20 +2,25 @@
 -- block's, and every other slot is as before. By recursion on how many are written, each by the laws of a slot that was put.
 -- Assumes nothing.
 use mathlib.Core.Path.{_≡_, refl, _∙_}
-use mathlib.Core.Bool.{false}
+use mathlib.Core.Bool.{false, cond}
 use mathlib.Core.Logic.{⊎-elim}
 use mathlib.Core.List.{List}
 use Prim.Native.Nat.{ℕ, zero, suc, _+_, _<_}
 use native.Mathlib.Nat.{eq-or-lt-of-le, le-of-suc-le-suc}
+use native.Mathlib.Numerals.{add-one}
 use native.Mathlib.Omega.{arith}
 use lib.Dec.{ltb}
 use lib.IntN.{ℤ}
 use lib.ListN.{length}
 use borrow.Author.Tests.{lt-ltb}
 use Rattle.laws.specs.Tests.{by-test}
-use Rattle.table.specs.Slots.{badTable, slots, slotAt}
+use Rattle.table.specs.Slots.{badTable, slots, slotAt, putSlot}
 use Rattle.table.specs.SlotLaws.{put-length, put-same, put-other, same-length}
 use Rattle.blocks.specs.Slots.{firstSlot, blockSlot, loadedTo}
+
+-- a table with one slot of a block written, if it is not beyond the table
+abbrev pub slotLoaded : List ℤ → ℕ → List ℕ → ℕ → List ℤ
+slotLoaded u k block n = cond (ltb (firstSlot k + n) (slots u)) (putSlot u (firstSlot k + n) (blockSlot block n)) u
 
 module _ (t : List ℤ) (k : ℕ) (block : List ℕ) where
   -- the length is kept
@@ -27,7 +32,12 @@ module _ (t : List ℤ) (k : ℕ) (block : List ℕ) where
       (λ y. rw (y, put-length) (loaded-length n))
       (λ m. rw m (loaded-length n))
 
-  -- one more slot leaves the others as they were
+  -- one more slot
+  pub loaded-more : (n : ℕ) {u u′ : List ℤ} → u ≡ loadedTo t k block n → u′ ≡ slotLoaded u k block n → u′ ≡ loadedTo t k block (n + 1)
+  unfolding loadedTo
+  loaded-more n e h = rw add-one (h ∙ rw (e, loaded-length n))
+
+  -- it leaves the others as they were
   step-other : (n j : ℕ) → (j ≡ firstSlot k + n → ⊥) → slotAt (loadedTo t k block (suc n)) j ≡ slotAt (loadedTo t k block n) j
   unfolding loadedTo
   step-other n j ne =

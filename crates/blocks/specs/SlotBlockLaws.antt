@@ -2,13 +2,15 @@
 -- and slot j of it is slot j from the block's first of the table. A slot is sixteen halves and a word is two of them, so
 -- each half is read off its place, two are put together, and the word reads back as itself. Assumes nothing.
 use mathlib.Core.Path.{_≡_, refl, ap, _∙_}
-use mathlib.Core.Bool.{false}
+use mathlib.Core.Bool.{true, false}
 use mathlib.Core.List.{List, [], _∷_, _++_, flatMap}
 use Prim.Native.Nat.{ℕ, zero, suc, _+_, _*_, _<_}
 use native.Mathlib.Nat.{add-zero, add-suc, suc-add}
+use native.Mathlib.Numerals.{add-one}
 use native.Mathlib.Omega.{arith}
 use lib.IntN.{ℤ, pos}
 use lib.ListN.{length, getD, replicate, List·getD-append}
+use lib.Seq.{sets}
 use mir.Syntax.{w64}
 use mir.Val.{SFits, ofZ}
 use mir.ValLaws.{ofZ-fits}
@@ -16,16 +18,20 @@ use borrow.Author.Tests.{leb-true}
 use Rattle.laws.specs.Tests.{not-no}
 use Rattle.laws.specs.Order.{FromTo, from-to}
 use Rattle.laws.specs.Bits.{plain}
-use Rattle.laws.specs.First.{none}
-use Rattle.laws.specs.Digits.{EachBelow, digits-length, digits-below, number-digits}
+use Rattle.laws.specs.First.{first, none, hit, skip, done}
+use Rattle.laws.specs.Lowest.{some-yes, all-fail}
+use Rattle.laws.specs.Digits.{digits, EachBelow, digits-length, digits-below, number-digits}
 use Rattle.version.specs.declared.Version.{Version}
 use Rattle.table.specs.declared.Slot.{Slot}
 use Rattle.table.specs.Slots.{slotWords, badTable, wordsOf, word, slotAt, empty}
 use Rattle.table.specs.SlotLaws.{lengths, slot-path, word-at}
-use Rattle.blocks.specs.Words.{wordBase, blockOf, wordAt}
+use Rattle.table.specs.Formed.{broken}
+use Rattle.blocks.specs.Words.{checkPlace, byteBase, wordBytes, wordBase, blockOf, wordAt}
 use Rattle.blocks.specs.Groups.{groups-length, groups-at, groups-below, append-below, zeros-below}
 use Rattle.blocks.specs.WordLaws.{BlockWords, block-word}
-use Rattle.blocks.specs.Slots.{blockSlots, blocks, firstSlot, halves, slotsFrom, slotBlockWords, longAt, blockSlot}
+use Rattle.blocks.specs.WrittenLaws.{Written, Follow, whole}
+use Rattle.blocks.specs.Slots.{blockSlots, blocks, firstSlot, halves, halvesOf, slotsFrom, slotBlockWords, blockBroken, longAt, blockSlot}
+use Rattle.blocks.specs.FrontLaws.{slotTests}
 use Rattle.blocks.specs.SaveBlock.{saveBlockRefusal, saveBlockBlock}
 
 -- the words of a table are machine words
@@ -71,6 +77,16 @@ slotsFrom-groups t from (suc n) = rw (slotsFrom-groups t (suc from) n)
 slotsFrom-below : (t : List ℤ) (from n : ℕ) → EachBelow wordBase (slotsFrom t from n)
 slotsFrom-below t from n = rw (slotsFrom-groups t from n) (groups-below slotHalves wordBase (omega arith) slotHalves-below (slotsAt t from n))
 
+-- sixteen halves to a slot
+slotsFrom-length : (t : List ℤ) (from n : ℕ) → length (slotsFrom t from n) ≡ n * 16
+slotsFrom-length t from n =
+    rw (slotsFrom-groups t from n) (groups-length slotHalves 16 slotHalves-length (slotsAt t from n) ∙ ap (λ m. m * 16) (slotsAt-length t from n))
+
+-- one slot more
+slotsFrom-more : (t : List ℤ) (from n : ℕ) → slotsFrom t from (suc n) ≡ slotsFrom t from n ++ halvesOf (wordsOf (slotAt t (from + n)))
+slotsFrom-more t from zero = rw add-zero
+slotsFrom-more t from (suc n) = rw (slotsFrom-more t (suc from) n, suc-add, add-suc)
+
 -- a half of a word of a slot stands at its place
 half-at : (t : List ℤ) (from m j n h : ℕ) → j < m → n < slotWords → h < 2
     → getD (slotsFrom t from m) (j * 16 + (n * 2 + h)) 0 ≡ getD (halves (getD (wordsOf (slotAt t (from + j))) n (pos 0))) h 0
@@ -82,6 +98,32 @@ half-at t from m j n h a b c =
       slotsAt-at t from m j a,
     )
     (groups-at halves 2 halves-length (wordsOf (slotAt t (from + j))) n h (pos 0) 0 b c)
+
+-- ---- a block while its slots are written: its number, and so many of them
+abbrev pub numbered : List ℤ → ℕ → ℕ → List ℕ
+numbered t k n = k ∷ slotsFrom t (firstSlot k) n
+
+module _ (t : List ℤ) (k n : ℕ) {block : List ℕ} {check : ℕ} (w : Written (numbered t k n) block check) where
+  -- one slot more
+  pub slot-written : {block′ : List ℕ} {check′ : ℕ}
+      → Follow (n * 16 + 1) block check (halvesOf (wordsOf (slotAt t (firstSlot k + n)))) block′ check′ → Written (numbered t k (n + 1)) block′ check′
+  slot-written f =
+      rw (add-one, slotsFrom-more t (firstSlot k) n) (f .after (numbered t k n) (omega (arith, slotsFrom-length t (firstSlot k) n)) w)
+
+  -- all seven, and the check
+  pub slots-whole : n ≡ blockSlots → sets block (checkPlace * wordBytes) (digits byteBase wordBytes check) ≡ blockOf (slotBlockWords t k)
+  unfolding slotBlockWords
+  slots-whole e = whole (numbered t k blockSlots) 14 refl (rw e at w)
+
+-- and refusal 6: a broken one is enough, and where none is it is not given
+module _ (t : List ℤ) (v : Version) (k : ℕ) where
+  pub slot-broken : (j : ℕ) → j < blockSlots → broken (slotAt t (firstSlot k + j)) v ≡ true → first (slotTests t v k) ≡ 6
+  unfolding blockBroken
+  slot-broken j h b = hit [] (some-yes _ blockSlots j h b)
+
+  pub none-broken : ((j : ℕ) → j < blockSlots → broken (slotAt t (firstSlot k + j)) v ≡ false) → first (slotTests t v k) ≡ 0
+  unfolding blockBroken
+  none-broken f = skip 6 [] (all-fail _ blockSlots f) ∙ done
 
 -- ---- a save that is not refused
 module _ (t : List ℤ) (v : Version) (k : ℕ) (allowed : saveBlockRefusal t v k ≡ 0) where

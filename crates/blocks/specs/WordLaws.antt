@@ -44,7 +44,7 @@ word-back ws b i h =
     byte j k = rw (bytesOf-groups ws) (groups-at _ _ (digits-length byteBase wordBytes) ws i j 0 0 h k)
 
 -- ---- the total of words
-total-append : (l m : List ℕ) → total (l ++ m) ≡ total l + total m
+pub total-append : (l m : List ℕ) → total (l ++ m) ≡ total l + total m
 total-append [] m = sym (zero-add (total m))
 total-append (w ∷ l) m = rw (total-append l m) (omega arith)
 

@@ -1,0 +1,50 @@
+-- `blocks::save_header` meets its contract: the refusal of its tests, or the block of a header whose words fit.
+-- Assumes nothing.
+use mathlib.Core.Path.{_≡_, refl, sym, _∙_}
+use native.Mathlib.Omega.{arith}
+use mir.Syntax.{w64}
+use mir.Val.{SFits}
+use borrow.Author.Needs.{needs}
+use Rattle.laws.specs.Bits.{plain}
+use Rattle.laws.specs.First.{first, none}
+use Rattle.table.specs.SlotLaws.{Lengths, lengths}
+use Rattle.blocks.specs.FrontLaws.{idleTests}
+use Rattle.blocks.specs.Headers.{headerWords}
+use Rattle.blocks.specs.HeaderLaws.{Natural, current-natural}
+use Rattle.blocks.specs.SaveHeader.{saveHeaderRefusal}
+use Rattle.blocks.specs.ContractLaws.{zeros-handed, header-saved}
+use Rattle.blocks.proofs.save_header.Statement.{statement}
+use Rattle.blocks.proofs.save_header.Tie as tie
+
+past7 : (c : tie.Else1) → first (idleTests (c .before .before .args .table .now) (c .before .before .args .version)) ≡ 0
+past7 c = sym (c .before .idle-refusal .ensures) ∙ c .if1 .left
+
+size : (c : tie.Else1) → Lengths (c .before .before .args .table .now)
+size c = lengths _ (none _ tt (past7 c) 1)
+
+current : (c : tie.Else1) → Natural (c .before .before .args .version .current)
+current c = current-natural _ (none _ tt (past7 c) 2)
+
+fits : (c : tie.After-struct-told) → SFits w64 (c .before .before .before .args .version .current)
+fits c = search needs
+
+refuses : tie.Need-returns
+unfolding saveHeaderRefusal
+refuses c =
+    let t = c .before in
+    header-saved (sym (t .before .idle-refusal .ensures)) (zeros-handed _ (c .refused .ensures) (t .if1 .taken))
+
+few : tie.Need-cast-header-block
+few c = record { fits = omega (arith, size (c .before) .few) }
+
+small : tie.Need-cast-header-block-2
+small c = rw (plain _ (fits c)) (current (c .before) .positive, record { fits = omega (arith, current (c .before) .small) })
+
+saves : tie.Need-returns-2
+unfolding saveHeaderRefusal headerWords
+saves c =
+    let told = c .before in
+    header-saved (past7 (told .before)) (record { refusal = refl; block = rw (plain _ (fits told)) at (c .header-block .ensures) })
+
+pub save-header-spec : {M : Type 1} → statement M
+save-header-spec = tie.close (tie.spec (λ c κs. search needs) (λ c κs. search needs) refuses few small (λ c κs. search needs) saves)

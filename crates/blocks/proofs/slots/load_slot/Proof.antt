@@ -1,0 +1,19 @@
+-- `blocks::slots::load_slot` meets its contract: a slot beyond the table is not written. Assumes nothing.
+use borrow.Author.Needs.{needs}
+use borrow.Author.Tests.{lt-ltb, le-ltb}
+use Rattle.blocks.proofs.slots.load_slot.Statement.{statement}
+use Rattle.blocks.proofs.slots.load_slot.Tie as tie
+
+beyond : tie.Need-returns
+beyond c = rw (le-ltb _ _ (c .if1 .taken))
+
+written : tie.Need-returns-2
+written c =
+    let read = c .before .before .before in
+    rw (lt-ltb _ _ (read .before .if1 .left), c .before .put-slot .ensures, read .slot-of .ensures)
+
+pub load-slot-spec : {M : Type 1} → statement M
+load-slot-spec =
+    tie.close
+    (tie.spec (λ c. search needs) (λ c. search needs) (λ c. search needs) beyond
+    (λ c κs. search needs) (λ c κs. search needs) (λ c. search needs) written)

@@ -1,0 +1,43 @@
+-- `blocks::slots::some_slot_wrong` meets its contract: no slot passed is wrong. Assumes nothing.
+use mathlib.Core.Path.{_≡_, sym, _∙_}
+use mathlib.Core.Bool.{false}
+use Prim.Native.Nat.{ℕ, _≤_, _<_, _-_}
+use native.Mathlib.Omega.{arith}
+use borrow.Author.Needs.{needs}
+use Rattle.laws.specs.Lowest.{below-next, some-yes, all-fail}
+use Rattle.blocks.specs.Slots.{blockSlots, slotWrong}
+use Rattle.blocks.proofs.slots.some_slot_wrong.Statement.{statement}
+use Rattle.blocks.proofs.slots.some_slot_wrong.Tie as tie
+
+abbrev Inv-loop : tie.InvT-loop
+Inv-loop table version number block j₀ j = (j ≤ blockSlots) × ((i : ℕ) → i < j → slotWrong table version number block i ≡ false)
+
+abbrev μ-loop : tie.MeasureT-loop
+μ-loop table version number block j₀ j = blockSlots - j
+
+-- the test was that of the slot at the place
+tested : (c : tie.After-slot-wrong Inv-loop μ-loop) → let l = c .before .before in
+    let a = l .before .before .args in
+    c .slot-wrong .result ≡ slotWrong (a .table .now) (a .version) (a .number) (a .block .now) (l .loop .j)
+tested c = c .slot-wrong .ensures
+
+returns : tie.Need-returns Inv-loop μ-loop
+returns c =
+    let l = c .before .before .before in
+    sym (some-yes _ _ (l .loop .j) (omega arith) (sym (tested (c .before)) ∙ c .if1 .taken))
+
+loop-again : tie.Need-loop-again Inv-loop μ-loop
+loop-again c =
+    let l = c .before .before .before in
+    let a = l .before .before .args in
+    let wrong = slotWrong (a .table .now) (a .version) (a .number) (a .block .now) in
+    (omega arith, below-next {p = wrong} (l .loop .inv .1) (sym (tested (c .before)) ∙ c .if1 .left))
+
+returns-2 : tie.Need-returns-2 Inv-loop μ-loop
+returns-2 c = sym (all-fail _ _ (λ i h. c .before .loop .inv .1 i (omega arith)))
+
+pub some-slot-wrong-spec : {M : Type 1} → statement M
+some-slot-wrong-spec =
+    tie.close
+    (tie.spec Inv-loop μ-loop (λ c. (omega arith, λ i h. absurd (omega arith))) (λ c κs. search needs) returns
+    (λ c. search needs) (λ c. search needs) loop-again returns-2)

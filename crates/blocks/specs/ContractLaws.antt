@@ -1,0 +1,63 @@
+-- How each contract is shown: by a refusal that is given, or by what is done where nothing is refused. Assumes nothing.
+use mathlib.Core.Path.{_≡_, refl, sym, _∙_}
+use mathlib.Core.List.{List}
+use Prim.Native.Nat.{ℕ}
+use lib.IntN.{ℤ}
+use Rattle.laws.specs.First.{unless, unless-refused, unless-done}
+use Rattle.version.specs.declared.Version.{Version}
+use Rattle.blocks.specs.declared.Saved.{Saved}
+use Rattle.blocks.specs.declared.Header.{Header}
+use Rattle.blocks.specs.declared.Loaded.the-variants.{Done}
+use Rattle.blocks.specs.declared.Header.the-variants as header
+use Rattle.blocks.specs.declared.Loaded.the-variants as loaded
+use Rattle.blocks.specs.Words.{blockOf, zeroBlock}
+use Rattle.blocks.specs.Headers.{headerWords, headerOf}
+use Rattle.blocks.specs.Slots.{blockSlots, slotBlockWords, loadedTo}
+use Rattle.blocks.specs.SaveHeader.{saveHeaderRefusal, saveHeaderBlock, HeaderSaved}
+use Rattle.blocks.specs.SaveBlock.{saveBlockRefusal, saveBlockBlock, BlockSaved}
+use Rattle.blocks.specs.LoadHeader.{loadHeaderRefusal, loadHeaderAnswer, HeaderLoaded}
+use Rattle.blocks.specs.LoadBlock.{loadBlockRefusal, loadBlockAnswer, loadBlockWords, BlockLoaded}
+
+-- ---- a save hands out the refusal's number beside zeros, or 0 beside the block of its words
+pub record Hands (r : Saved) (n : ℕ) (words : List ℕ) : Type 0 where
+  pub refusal : r .refusal ≡ n
+  pub block : r .block ≡ unless n (λ m. zeroBlock) (blockOf words)
+
+pub record HandsZeros (r : Saved) (n : ℕ) : Type 0 where
+  pub refusal : r .refusal ≡ n
+  pub block : r .block ≡ zeroBlock
+
+pub zeros-handed : {r : Saved} {n : ℕ} (words : List ℕ) → HandsZeros r n → (n ≡ 0 → ⊥) → Hands r n words
+zeros-handed words h z = record { refusal = h .refusal; block = h .block ∙ unless-refused (λ m. zeroBlock) (blockOf words) refl z }
+
+-- and so a header or a block is saved
+pub header-saved : {t : List ℤ} {v : Version} {r : Saved} {n : ℕ} → saveHeaderRefusal t v ≡ n → Hands r n (headerWords t v) → HeaderSaved t v r
+unfolding saveHeaderBlock
+header-saved e h = record { refusal = h .refusal ∙ sym e; block = rw e (h .block) }
+
+pub block-saved : {t : List ℤ} {v : Version} {k : ℕ} {r : Saved} {n : ℕ} → saveBlockRefusal t v k ≡ n → Hands r n (slotBlockWords t k) → BlockSaved t v k r
+unfolding saveBlockBlock
+block-saved e h = record { refusal = h .refusal ∙ sym e; block = rw e (h .block) }
+
+-- ---- load header
+module _ {block : List ℕ} where
+  pub header-not-loaded : {n : ℕ} → loadHeaderRefusal block ≡ n → (n ≡ 0 → ⊥) → HeaderLoaded block (header.Refused n)
+  unfolding loadHeaderAnswer
+  header-not-loaded e z = record { answer = unless-refused header.Refused (headerOf block) e z }
+
+  pub header-loaded : {r : Header} → loadHeaderRefusal block ≡ 0 → r ≡ headerOf block → HeaderLoaded block r
+  unfolding loadHeaderAnswer
+  header-loaded e h = record { answer = unless-done header.Refused e h }
+
+-- ---- load block
+module _ {t : List ℤ} {v : Version} {k : ℕ} {block : List ℕ} where
+  pub block-not-loaded : {n : ℕ} → loadBlockRefusal t v k block ≡ n → (n ≡ 0 → ⊥) → BlockLoaded t v k block (loaded.Refused n) t
+  unfolding loadBlockAnswer loadBlockWords
+  block-not-loaded e z = record {
+    answer = unless-refused loaded.Refused Done e z;
+    words = unless-refused (λ n. t) (loadedTo t k block blockSlots) e z;
+  }
+
+  pub block-loaded : {u : List ℤ} → loadBlockRefusal t v k block ≡ 0 → u ≡ loadedTo t k block blockSlots → BlockLoaded t v k block Done u
+  unfolding loadBlockAnswer loadBlockWords
+  block-loaded e h = record { answer = unless-done loaded.Refused e refl; words = unless-done (λ n. t) e h }
