@@ -1,3 +1,4 @@
 pub mod Cases
 pub mod Figures
 pub mod Worked
+pub mod Blocks

@@ -1,0 +1,40 @@
+-- Document 01's figures on blocks, which it does not mark P, computed: the checks of saved blocks, and that no block is saved
+-- while a run is active. The program `checks` runs the same on the code. Assumes nothing.
+use mathlib.Core.Path.{_≡_, refl}
+use mathlib.Core.Bool.{true, false}
+use mathlib.Core.List.{List, [], _∷_, _++_}
+use Prim.Native.Nat.{ℕ}
+use lib.IntN.{ℤ, pos, negsuc}
+use Rattle.laws.specs.Tests.{all, any}
+use Rattle.laws.specs.First.{first}
+use Rattle.laws.specs.Lowest.{lowest, some}
+use Rattle.version.specs.declared.Version.{Version}
+use Rattle.version.specs.Record.{badRecord, freshRecord}
+use Rattle.table.specs.Slots.{freshTable, badTable, slotAt}
+use Rattle.table.specs.Totals.{lawful}
+use Rattle.table.specs.Formed.{allZeros, totalsLawful, usedWell, wellFormed}
+use Rattle.blocks.specs.Words.{checkPlace, bytesOf, blockOf, zeroBlock, wordAt}
+use Rattle.blocks.specs.Headers.{headerWords}
+use Rattle.blocks.specs.Slots.{slotBlockWords, blockBroken}
+use Rattle.blocks.specs.SaveHeader.{saveHeaderRefusal, saveHeaderBlock}
+use Rattle.blocks.specs.SaveBlock.{saveBlockRefusal, saveBlockBlock}
+use Rattle.figures.specs.Cases.{idleAt, runningAt}
+
+-- eight slots, the first as run 2, insert, (1, 19961014), 10,000 and a total two
+abbrev pub oneRow : ℤ → List ℤ
+oneRow second = (pos 2 ∷ pos 1 ∷ pos 1 ∷ pos 19961014 ∷ pos 10000 ∷ second ∷ pos 0 ∷ pos 0 ∷ []) ++ freshTable 7
+
+pub record Blocks : Type 0 where
+  -- block 0 for 8 slots, current 1: check 9; block 1 of that fresh table: check 1
+  pub header : wordAt (saveHeaderBlock (freshTable 8) freshRecord) checkPlace ≡ 9
+  pub slots : wordAt (saveBlockBlock (freshTable 8) freshRecord 1) checkPlace ≡ 1
+  -- at current 1 with a run active no block is saved
+  pub header-refused : saveHeaderRefusal (freshTable 8) (runningAt 1) ≡ 7
+  pub slots-refused : saveBlockRefusal (freshTable 8) (runningAt 1) 1 ≡ 7
+  -- at current 2, slot 0 as run 2, insert, (1, 19961014), 10,000, 0: check 19971019; with total two −1: 19971017
+  pub row : wordAt (saveBlockBlock (oneRow (pos 0)) (idleAt 2) 1) checkPlace ≡ 19971019
+  pub minus : wordAt (saveBlockBlock (oneRow (negsuc 0)) (idleAt 2) 1) checkPlace ≡ 19971017
+
+pub blocks : Blocks
+unfolding all any first lowest some badRecord badTable slotAt lawful allZeros totalsLawful usedWell wellFormed bytesOf blockOf wordAt headerWords slotBlockWords blockBroken saveHeaderRefusal saveHeaderBlock saveBlockRefusal saveBlockBlock
+blocks = record { header = refl; slots = refl; header-refused = refl; slots-refused = refl; row = refl; minus = refl }
