@@ -3,6 +3,7 @@
 use mathlib.Core.Path.{_≡_, refl, sym, _∙_}
 use mathlib.Core.Bool.{true, false}
 use mathlib.Core.List.{List}
+use Prim.Native.Nat.{ℕ, zero, suc}
 use lib.Dec.{ltb}
 use lib.IntN.{ℤ, pos}
 use lib.Signed.{ltZ, leZ}
@@ -24,16 +25,19 @@ use Rattle.table.specs.Keys.{hasKey, keySlot, keyed}
 use Rattle.table.specs.KeyLaws.{Keyed, has-key, keySlot-is, empty-keyless, absent-empty, absent-nowhere, live-placed}
 use Rattle.table.specs.Free.{free, freeSlot}
 use Rattle.table.specs.FreeLaws.{freeSlot-is, free-cases}
+use Rattle.reads.specs.declared.Seen.{Seen}
 use Rattle.reads.specs.declared.Seen.the-variants.{Row, NoRow}
 use Rattle.reads.specs.Table1.{shown}
 use Rattle.reads.specs.Table1Laws.{shown-deleted, shown-empty}
+use Rattle.changes.specs.declared.Placed.{Placed}
 use Rattle.changes.specs.Tables.{inserted, updated, deleted}
 use Rattle.changes.specs.TableLaws.{inserted-new, inserted-older, inserted-same, updated-older, updated-same, deleted-older, deleted-insert, deleted-update}
 use Rattle.changes.specs.Effects.{Effect, run-within, save-effect, correct-effect, remove-effect, erase-effect, mark-effect, restore-effect, insert-effect}
 use Rattle.changes.specs.Whole.{Whole, Wrote, only}
-use Rattle.changes.specs.Insert.{insertSlot, insertRefusal, insertWords}
-use Rattle.changes.specs.Update.{updateRefusal, updateWords}
-use Rattle.changes.specs.Delete.{deleteRefusal, deleteWords}
+use Rattle.changes.specs.Insert.{insertSlot, insertRefusal, insertAnswer, insertWords}
+use Rattle.changes.specs.Update.{updateRefusal, updateAnswer, updateWords}
+use Rattle.changes.specs.Delete.{deleteRefusal, deleteAnswer, deleteWords}
+use Rattle.changes.specs.Outcomes.{Refuses, Accepts, insert-refuses, insert-accepts, update-refuses, update-accepts, delete-refuses, delete-accepts}
 
 module _ (v : Version) (known : badRecord v ≡ false) (active : v .active ≡ true) where
   -- an older run is one that is at most current
@@ -147,3 +151,32 @@ insert-wrote t v one two a b whole h =
           (λ n. let taken = freeSlot-is t v .passes (ltb-true _ _ (rw n at room)) in
           rw (n, absent-empty t one two (no 1) (ltb-false _ _ n)) (first-effect v (no 2) (not-no (no 8)) (slotAt t (freeSlot t v)) one two a b taken g));
     }
+
+-- ---- what comes of a change of a whole table: it is refused, or it is accepted and writes to its effect
+pub data Came (t : List ℤ) (v : Version) (one two : ℤ) (after : Seen) (r : Placed) (t′ : List ℤ) : Type 0 where
+  refuses : (n : ℕ) → Refuses (suc n) t r t′ → Came t v one two after r t′
+  accepts : (k : ℕ) → Accepts v k r → Wrote t v one two after k t′ → Came t v one two after r t′
+
+pub insert-came : (t : List ℤ) (v : Version) (one two a b : ℤ) → Whole t v
+    → Came t v one two (Row one two a b) (insertAnswer t v one two a b) (insertWords t v one two a b)
+insert-came t v one two a b whole = go (insertRefusal t v one two a b) refl
+  where
+    go : (n : ℕ) → insertRefusal t v one two a b ≡ n → Came t v one two (Row one two a b) (insertAnswer t v one two a b) (insertWords t v one two a b)
+    go zero h = accepts _ (insert-accepts t v one two a b h) (insert-wrote t v one two a b whole h)
+    go (suc n) h = refuses n (insert-refuses t v one two a b n h)
+
+pub update-came : (t : List ℤ) (v : Version) (one two a b : ℤ) → Whole t v
+    → Came t v one two (Row one two a b) (updateAnswer t v one two a b) (updateWords t v one two a b)
+update-came t v one two a b whole = go (updateRefusal t v one two a b) refl
+  where
+    go : (n : ℕ) → updateRefusal t v one two a b ≡ n → Came t v one two (Row one two a b) (updateAnswer t v one two a b) (updateWords t v one two a b)
+    go zero h = accepts _ (update-accepts t v one two a b h) (update-wrote t v one two a b whole h)
+    go (suc n) h = refuses n (update-refuses t v one two a b n h)
+
+pub delete-came : (t : List ℤ) (v : Version) (one two : ℤ) → Whole t v
+    → Came t v one two NoRow (deleteAnswer t v one two) (deleteWords t v one two)
+delete-came t v one two whole = go (deleteRefusal t v one two) refl
+  where
+    go : (n : ℕ) → deleteRefusal t v one two ≡ n → Came t v one two NoRow (deleteAnswer t v one two) (deleteWords t v one two)
+    go zero h = accepts _ (delete-accepts t v one two h) (delete-wrote t v one two whole h)
+    go (suc n) h = refuses n (delete-refuses t v one two n h)

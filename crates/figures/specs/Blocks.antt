@@ -1,19 +1,16 @@
 -- Document 01's figures on blocks, which it does not mark P, computed: the checks of saved blocks, and that no block is saved
 -- while a run is active. The program `checks` runs the same on the code. Assumes nothing.
 use mathlib.Core.Path.{_≡_, refl}
-use mathlib.Core.Bool.{true, false}
 use mathlib.Core.List.{List, [], _∷_, _++_}
-use Prim.Native.Nat.{ℕ}
 use lib.IntN.{ℤ, pos, negsuc}
 use Rattle.laws.specs.Tests.{all, any}
 use Rattle.laws.specs.First.{first}
 use Rattle.laws.specs.Lowest.{lowest, some}
-use Rattle.version.specs.declared.Version.{Version}
 use Rattle.version.specs.Record.{badRecord, freshRecord}
 use Rattle.table.specs.Slots.{freshTable, badTable, slotAt}
 use Rattle.table.specs.Totals.{lawful}
 use Rattle.table.specs.Formed.{allZeros, totalsLawful, usedWell, wellFormed}
-use Rattle.blocks.specs.Words.{checkPlace, bytesOf, blockOf, zeroBlock, wordAt}
+use Rattle.blocks.specs.Words.{checkPlace, bytesOf, blockOf, wordAt}
 use Rattle.blocks.specs.Headers.{headerWords}
 use Rattle.blocks.specs.Slots.{slotBlockWords, blockBroken}
 use Rattle.blocks.specs.SaveHeader.{saveHeaderRefusal, saveHeaderBlock}

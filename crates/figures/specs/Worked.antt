@@ -2,10 +2,9 @@
 -- empty. A session at version 2 reads one slot before run 3 and the other after it; during the run the table is full; run 4 makes
 -- the session expire, and takes the slot that run 3 freed. Assumes nothing.
 use mathlib.Core.Path.{_≡_, refl}
-use mathlib.Core.Bool.{Bool, true, false}
+use mathlib.Core.Bool.{true, false}
 use mathlib.Core.List.{List, [], _∷_, map}
-use Prim.Native.Nat.{ℕ}
-use lib.IntN.{ℤ, pos}
+use lib.IntN.{pos}
 use Rattle.laws.specs.Tests.{all, any}
 use Rattle.laws.specs.First.{first}
 use Rattle.laws.specs.Lowest.{lowest, some}
@@ -31,7 +30,7 @@ use Rattle.changes.specs.Delete.{deleteRefusal, deleteAnswer, deleteWords}
 use Rattle.calls.specs.Calls.{Call, begin, commit, insert, update, delete, readSlot, rollUp}
 use Rattle.calls.specs.Calls as answer
 use Rattle.history.specs.Databases.{Row, row}
-use Rattle.history.specs.Followed.{Followed, accepted}
+use Rattle.history.specs.Followed.{accepted}
 use Rattle.history.specs.Histories.{World, fresh, after, answerOf, Turn, mine, other, slotsAsked, answersGot}
 use Rattle.history.specs.Demand.{rowsGot, bothOf}
 

@@ -7,7 +7,6 @@ use mathlib.Core.List.{[], _∷_, _++_, map, List·Permᴰ, Permᴰ·refl}
 use mathlib.Core.List as L
 use Prim.Native.Nat.{suc}
 use lib.IntN.{ℤ, _+ℤ_, +ℤ-comm, +ℤ-assoc}
-use lib.ListN.{length}
 use Rattle.laws.specs.Tests.{by-test, clash}
 use Rattle.laws.specs.Order.{eqZ, eqZ-true, eqZ-same}
 use Rattle.reads.specs.declared.Seen.{Seen}
@@ -165,10 +164,3 @@ tally-perm one (L.List·Permᴰ·swap {a = a} {b = b} {l = l} e f) =
     tally-swap (eqZ (a .key1) one) (eqZ (b .key1) one) (a .first) (a .second) (b .first) (b .second) (tally one (map asSeen l))
     ∙ ap (λ d. tally one (map asSeen d)) (ap₂ (λ x y. x ∷ y ∷ l) f e)
 tally-perm one (L.List·Permᴰ·trans x y) = tally-perm one x ∙ tally-perm one y
-
--- ---- the same count
-pub length-perm : {d e : Database} → List·Permᴰ d e → length d ≡ length e
-length-perm L.List·Permᴰ·nil = refl
-length-perm (L.List·Permᴰ·cons same rest) = ap suc (length-perm rest)
-length-perm (L.List·Permᴰ·swap e f) = refl
-length-perm (L.List·Permᴰ·trans x y) = length-perm x ∙ length-perm y

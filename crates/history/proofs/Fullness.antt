@@ -14,6 +14,7 @@ use lib.ListN.{length, length-append}
 use borrow.Author.Tests.{ltb-true, ltb-false, eqb-true, eqb-false}
 use Rattle.laws.specs.Tests.{by-test, clash}
 use Rattle.laws.specs.Order.{eqZ}
+use Rattle.laws.specs.Repeats.{permᴰ-length}
 use Rattle.laws.specs.First.{skip, hit, done}
 use Rattle.version.specs.declared.Version.{Version}
 use Rattle.version.specs.Record.{runNumber}
@@ -37,7 +38,7 @@ use Rattle.history.specs.Databases.{Row, Database, row, isKey, holds, be
 use Rattle.history.specs.Followed.{Followed, current, databaseAt, accepted}
 use Rattle.history.specs.Histories.{World}
 use Rattle.history.specs.Demand.{rowsOf, Fullness}
-use Rattle.history.proofs.Databases.{holds-perm, holds-append, is-key, length-perm, cond-perm, cond-swap, or-false, key-of}
+use Rattle.history.proofs.Databases.{holds-perm, holds-append, is-key, cond-perm, cond-swap, or-false, key-of}
 use Rattle.history.proofs.Rows.{rowsAt, restAt, focus, rows-lack, rest-lacks}
 use Rattle.history.proofs.Invariant.{Inv, lowOf, low-is}
 use Rattle.history.proofs.Steps.{InvW}
@@ -61,7 +62,7 @@ beside-perm a (L.List·Permᴰ·trans x y) = L.List·Permᴰ·trans (beside-perm
 together-length : {a a′ b b′ : Database} → List·Permᴰ a a′ → List·Permᴰ b b′ → length (together a b) ≡ length (together a′ b′)
 together-length {a} {a′} {b} {b′} x y =
     length-append a (beside a b)
-    ∙ ap₂ _+_ (length-perm x) (ap length (beside-same a a′ b (λ p q. holds-perm p q x)) ∙ length-perm (beside-perm a′ y))
+    ∙ ap₂ _+_ (permᴰ-length x) (ap length (beside-same a a′ b (λ p q. holds-perm p q x)) ∙ permᴰ-length (beside-perm a′ y))
     ∙ sym (length-append a′ (beside a′ b′))
 
 -- a key is held together exactly when one holds it

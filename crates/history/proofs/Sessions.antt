@@ -23,12 +23,7 @@ use Rattle.reads.specs.declared.Seen.the-variants as seen
 use Rattle.reads.specs.Table1.{shown}
 use Rattle.reads.specs.Outcomes.{slot-shown}
 use Rattle.changes.specs.declared.Placed.{Placed}
-use Rattle.changes.specs.Whole.{Wrote}
-use Rattle.changes.specs.Insert.{insertRefusal, insertWords}
-use Rattle.changes.specs.Update.{updateRefusal, updateWords}
-use Rattle.changes.specs.Delete.{deleteRefusal, deleteWords}
-use Rattle.changes.specs.Accepted.{insert-wrote, update-wrote, delete-wrote}
-use Rattle.changes.specs.Outcomes.{Refuses, Accepts, insert-refuses, insert-accepts, update-refuses, update-accepts, delete-refuses, delete-accepts}
+use Rattle.changes.specs.Accepted.{Came, refuses, accepts, insert-came, update-came, delete-came}
 use Rattle.calls.specs.Calls.{Call, openSession, begin, commit, readSlot, readKey, rollUp, insert, update, delete, saveHeader, saveBlock, loadHeader, loadBlock, Answer}
 use Rattle.calls.specs.Calls as answer
 use Rattle.history.specs.Databases.{Database}
@@ -103,33 +98,12 @@ module _ (n : ℕ) (w : World) (i : InvW n w) where
         (λ m. omega (arith, ltb-false s (current (w .told)) m, c .to)) in
         ap pos e ∙ sym (i .version)
 
-    refused-stays : (m : ℕ) (r : Placed) (t′ : List ℤ) → Refuses (suc m) (w .state .words) r t′ → (j : ℕ)
+    change-stays : (one two : ℤ) (after : Seen) (r : Placed) (t′ : List ℤ) → Came (w .state .words) (w .state .version) one two after r t′ → (j : ℕ)
         → shown (pos s) (slotAt t′ j) ≡ shown (pos s) (slotAt (w .state .words) j)
-    refused-stays m r t′ refuses j = ap (λ t. shown (pos s) (slotAt t j)) (refuses .words)
-
-    accepted-stays : (k : ℕ) (r : Placed) (one two : ℤ) (after : Seen) (t′ : List ℤ) → Accepts (w .state .version) k r
-        → Wrote (w .state .words) (w .state .version) one two after k t′ → (j : ℕ) → shown (pos s) (slotAt t′ j) ≡ shown (pos s) (slotAt (w .state .words) j)
-    accepted-stays k r one two after t′ ok wrote j =
-        let a = sym (i .active) ∙ ok .active in
+    change-stays one two after r t′ (refuses m x) j = ap (λ t. shown (pos s) (slotAt t j)) (x .words)
+    change-stays one two after r t′ (accepts k x wrote) j =
+        let a = sym (i .active) ∙ x .active in
         rw (is-current a) (current-stays n (w .state .words) (w .state .version) (w .told) i a one two after k t′ wrote j)
-
-    insert-stays : (one two a b : ℤ) (r : ℕ) → insertRefusal (w .state .words) (w .state .version) one two a b ≡ r → (j : ℕ)
-        → shown (pos s) (slotAt (insertWords (w .state .words) (w .state .version) one two a b) j) ≡ shown (pos s) (slotAt (w .state .words) j)
-    insert-stays one two a b zero h =
-        accepted-stays _ _ one two _ _ (insert-accepts (w .state .words) (w .state .version) one two a b h) (insert-wrote (w .state .words) (w .state .version) one two a b (i .whole) h)
-    insert-stays one two a b (suc m) h = refused-stays m _ _ (insert-refuses (w .state .words) (w .state .version) one two a b m h)
-
-    update-stays : (one two a b : ℤ) (r : ℕ) → updateRefusal (w .state .words) (w .state .version) one two a b ≡ r → (j : ℕ)
-        → shown (pos s) (slotAt (updateWords (w .state .words) (w .state .version) one two a b) j) ≡ shown (pos s) (slotAt (w .state .words) j)
-    update-stays one two a b zero h =
-        accepted-stays _ _ one two _ _ (update-accepts (w .state .words) (w .state .version) one two a b h) (update-wrote (w .state .words) (w .state .version) one two a b (i .whole) h)
-    update-stays one two a b (suc m) h = refused-stays m _ _ (update-refuses (w .state .words) (w .state .version) one two a b m h)
-
-    delete-stays : (one two : ℤ) (r : ℕ) → deleteRefusal (w .state .words) (w .state .version) one two ≡ r → (j : ℕ)
-        → shown (pos s) (slotAt (deleteWords (w .state .words) (w .state .version) one two) j) ≡ shown (pos s) (slotAt (w .state .words) j)
-    delete-stays one two zero h =
-        accepted-stays _ _ one two _ _ (delete-accepts (w .state .words) (w .state .version) one two h) (delete-wrote (w .state .words) (w .state .version) one two (i .whole) h)
-    delete-stays one two (suc m) h = refused-stays m _ _ (delete-refuses (w .state .words) (w .state .version) one two m h)
 
     pub stays : (call : Call) → isLoad call ≡ false → (j : ℕ) → shown (pos s) (slotAt (next call w .state .words) j) ≡ shown (pos s) (slotAt (w .state .words) j)
     stays openSession load j = refl
@@ -138,9 +112,9 @@ module _ (n : ℕ) (w : World) (i : InvW n w) where
     stays (readSlot r k) load j = refl
     stays (readKey r one two) load j = refl
     stays (rollUp r one) load j = refl
-    stays (insert one two a b) load j = insert-stays one two a b _ refl j
-    stays (update one two a b) load j = update-stays one two a b _ refl j
-    stays (delete one two) load j = delete-stays one two _ refl j
+    stays (insert one two a b) load j = change-stays one two _ _ _ (insert-came (w .state .words) (w .state .version) one two a b (i .whole)) j
+    stays (update one two a b) load j = change-stays one two _ _ _ (update-came (w .state .words) (w .state .version) one two a b (i .whole)) j
+    stays (delete one two) load j = change-stays one two _ _ _ (delete-came (w .state .words) (w .state .version) one two (i .whole)) j
     stays saveHeader load j = refl
     stays (saveBlock k) load j = refl
     stays (loadHeader b) load j = refl

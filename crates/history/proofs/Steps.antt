@@ -14,15 +14,9 @@ use Rattle.version.specs.declared.Numbered.the-variants as numbered
 use Rattle.version.specs.RunLaws.{begin-refuses, begin-accepts, commit-refuses, commit-accepts}
 use Rattle.version.specs.Runs.{beginRefusal, commitRefusal}
 use Rattle.reads.specs.declared.Seen.{Seen}
-use Rattle.reads.specs.declared.Seen.the-variants as seen
 use Rattle.changes.specs.declared.Placed.{Placed}
 use Rattle.changes.specs.declared.Placed.the-variants as placed
-use Rattle.changes.specs.Insert.{insertRefusal}
-use Rattle.changes.specs.Update.{updateRefusal}
-use Rattle.changes.specs.Delete.{deleteRefusal}
-use Rattle.changes.specs.Whole.{Wrote}
-use Rattle.changes.specs.Outcomes.{Refuses, Accepts, insert-refuses, insert-accepts, update-refuses, update-accepts, delete-refuses, delete-accepts}
-use Rattle.changes.specs.Accepted.{insert-wrote, update-wrote, delete-wrote}
+use Rattle.changes.specs.Accepted.{Came, refuses, accepts, insert-came, update-came, delete-came}
 use Rattle.calls.specs.Calls.{Call, openSession, begin, commit, readSlot, readKey, rollUp, insert, update, delete, saveHeader, saveBlock, loadHeader, loadBlock}
 use Rattle.calls.specs.Calls as answer
 use Rattle.calls.specs.Perform.{perform}
@@ -72,37 +66,17 @@ module _ (n : ℕ) (w : World) (i : InvW n w) where
       same-inv n i refl (no .record-kept) (ap (λ b. followed b commit (w .told)) (refused-number m _ (no .answer)))
 
   -- ---- changes
-  -- a refused one, and an accepted one, by what came of it
-  change-refused : (call : Call) (m : ℕ) (r : Placed) (t′ : List ℤ) → Refuses (suc m) (w .state .words) r t′
-      → Inv n t′ (w .state .version) (followed (accepted (answer.placed r)) call (w .told))
-  change-refused call m r t′ refuses = same-inv n i (refuses .words) refl (ap (λ b. followed b call (w .told)) (refused-placed m r (refuses .answer)))
-
-  change-accepted : (call : Call) (one two : ℤ) (after : Seen) (k : ℕ) (r : Placed) (t′ : List ℤ)
-      → Accepts (w .state .version) k r → Wrote (w .state .words) (w .state .version) one two after k t′
+  -- by what came of it; an accepted one makes of the running database what its effect says
+  change-step : (call : Call) (one two : ℤ) (after : Seen) (r : Placed) (t′ : List ℤ)
       → hear call (w .told) ≡ withRunning (w .told) (rowsOf after ++ without one two (w .told .running))
+      → Came (w .state .words) (w .state .version) one two after r t′
       → Inv n t′ (w .state .version) (followed (accepted (answer.placed r)) call (w .told))
-  change-accepted call one two after k r t′ ok wrote e =
+  change-step call one two after r t′ e (refuses m x) =
+      same-inv n i (x .words) refl (ap (λ b. followed b call (w .told)) (refused-placed m r (x .answer)))
+  change-step call one two after r t′ e (accepts k x wrote) =
       same-inv n
-      (change-inv n (w .state .words) (w .state .version) (w .told) i (sym (i .active) ∙ ok .active) one two after k t′ wrote _ refl) refl refl
-      (ap (λ a. followed (accepted (answer.placed a)) call (w .told)) (ok .answer) ∙ e)
-
-  insert-step : (one two a b : ℤ) (r : ℕ) → insertRefusal (w .state .words) (w .state .version) one two a b ≡ r → InvW n (next (insert one two a b) w)
-  insert-step one two a b zero h =
-      change-accepted (insert one two a b) one two (seen.Row one two a b) _ _ _ (insert-accepts (w .state .words) (w .state .version) one two a b h)
-      (insert-wrote (w .state .words) (w .state .version) one two a b (i .whole) h) refl
-  insert-step one two a b (suc m) h = change-refused (insert one two a b) m _ _ (insert-refuses (w .state .words) (w .state .version) one two a b m h)
-
-  update-step : (one two a b : ℤ) (r : ℕ) → updateRefusal (w .state .words) (w .state .version) one two a b ≡ r → InvW n (next (update one two a b) w)
-  update-step one two a b zero h =
-      change-accepted (update one two a b) one two (seen.Row one two a b) _ _ _ (update-accepts (w .state .words) (w .state .version) one two a b h)
-      (update-wrote (w .state .words) (w .state .version) one two a b (i .whole) h) refl
-  update-step one two a b (suc m) h = change-refused (update one two a b) m _ _ (update-refuses (w .state .words) (w .state .version) one two a b m h)
-
-  delete-step : (one two : ℤ) (r : ℕ) → deleteRefusal (w .state .words) (w .state .version) one two ≡ r → InvW n (next (delete one two) w)
-  delete-step one two zero h =
-      change-accepted (delete one two) one two seen.NoRow _ _ _ (delete-accepts (w .state .words) (w .state .version) one two h)
-      (delete-wrote (w .state .words) (w .state .version) one two (i .whole) h) refl
-  delete-step one two (suc m) h = change-refused (delete one two) m _ _ (delete-refuses (w .state .words) (w .state .version) one two m h)
+      (change-inv n (w .state .words) (w .state .version) (w .told) i (sym (i .active) ∙ x .active) one two after k t′ wrote _ refl) refl refl
+      (ap (λ a. followed (accepted (answer.placed a)) call (w .told)) (x .answer) ∙ e)
 
   -- ---- a call that reads
   quiet : (call : Call) → perform call (w .state) .state .words ≡ w .state .words → perform call (w .state) .state .version ≡ w .state .version
@@ -117,9 +91,9 @@ module _ (n : ℕ) (w : World) (i : InvW n w) where
   next-inv (readSlot s k) load = quiet (readSlot s k) refl refl refl
   next-inv (readKey s one two) load = quiet (readKey s one two) refl refl refl
   next-inv (rollUp s one) load = quiet (rollUp s one) refl refl refl
-  next-inv (insert one two a b) load = insert-step one two a b _ refl
-  next-inv (update one two a b) load = update-step one two a b _ refl
-  next-inv (delete one two) load = delete-step one two _ refl
+  next-inv (insert one two a b) load = change-step (insert one two a b) one two _ _ _ refl (insert-came (w .state .words) (w .state .version) one two a b (i .whole))
+  next-inv (update one two a b) load = change-step (update one two a b) one two _ _ _ refl (update-came (w .state .words) (w .state .version) one two a b (i .whole))
+  next-inv (delete one two) load = change-step (delete one two) one two _ _ _ refl (delete-came (w .state .words) (w .state .version) one two (i .whole))
   next-inv saveHeader load = quiet saveHeader refl refl refl
   next-inv (saveBlock k) load = quiet (saveBlock k) refl refl refl
   next-inv (loadHeader b) load = quiet (loadHeader b) refl refl refl

@@ -8,7 +8,7 @@ use Prim.Native.Nat.{suc}
 use native.Mathlib.Nat.{ℕ-set}
 use lib.ListN.{length}
 
-permᴰ-length : {A : Type 0} {l m : List A} → List·Permᴰ l m → length l ≡ length m
+pub permᴰ-length : {A : Type 0} {l m : List A} → List·Permᴰ l m → length l ≡ length m
 permᴰ-length L.List·Permᴰ·nil = refl
 permᴰ-length (L.List·Permᴰ·cons e d) = ap suc (permᴰ-length d)
 permᴰ-length (L.List·Permᴰ·swap e f) = refl
