@@ -1,6 +1,7 @@
 -- The slots of a saved block come back: where the save is not refused, its block is the one of its slots' words, which fit,
 -- and slot j of it is slot j from the block's first of the table. A slot is sixteen halves and a word is two of them, so
--- each half is read off its place, two are put together, and the word reads back as itself. Assumes nothing.
+-- each half is read off its place, two are put together, and the word reads back as itself. Before that, how the block is
+-- made: slot after slot behind its number, unless one is broken. Assumes nothing.
 use mathlib.Core.Path.{_≡_, refl, ap, _∙_}
 use mathlib.Core.Bool.{true, false}
 use mathlib.Core.List.{List, [], _∷_, _++_, flatMap}

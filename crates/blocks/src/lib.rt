@@ -76,7 +76,7 @@ fn refused(number: u32) -> Saved
     }
 }
 
-// Save header.
+// Save header: 1, 2, 7.
 pub fn save_header(table: &[i64], version: Version) -> Saved
     ensures { λ r. ⌜ HeaderSaved (now (table .entry)) version r ⌝ }
 {
@@ -93,7 +93,7 @@ pub fn save_header(table: &[i64], version: Version) -> Saved
     }
 }
 
-// Save block.
+// Save block: 1, 2, 7, 5, 6 (its slots).
 pub fn save_block(table: &[i64], version: Version, number: usize) -> Saved
     ensures { λ r. ⌜ BlockSaved (now (table .entry)) version number r ⌝ }
 {
@@ -104,7 +104,7 @@ pub fn save_block(table: &[i64], version: Version, number: usize) -> Saved
     slots::save_slots(table, version, number)
 }
 
-// Load header.
+// Load header: 14, 15, 16. It answers slots and current.
 pub fn load_header(block: &[u8]) -> Header
     ensures { λ r. ⌜ HeaderLoaded (now (block .entry)) r ⌝ }
 {
@@ -123,7 +123,7 @@ pub fn load_header(block: &[u8]) -> Header
     }
 }
 
-// Load block.
+// Load block: 1, 2, 7, 5, 14, 15, 16. It writes its slots only, and nothing where it is refused.
 pub fn load_block(table: &mut [i64], version: Version, number: usize, block: &[u8]) -> Loaded
     ensures { λ r. ⌜ BlockLoaded (now (table .entry)) version number (now (block .entry)) r (now (table .exit)) ⌝ }
 {

@@ -1,4 +1,5 @@
-// Block k from 1: which blocks a table has, which of a block's words are not allowed, and its slots written to the table.
+// Block k from 1: which blocks a table has, a block made of the table's slots, which of a block's words are not allowed, and
+// its slots written to the table.
 ghost use mathlib.Core.Path.{_≡_};
 ghost use mathlib.Core.Bool.{false};
 ghost use Prim.Native.Nat.{_<_};
@@ -79,12 +80,12 @@ fn some_slot_wrong(table: &[i64], version: Version, number: usize, block: &[u8])
     requires { ⌜ length (now block) ≡ blockBytes ⌝ }
     ensures { λ r. ⌜ r ≡ some (slotWrong (now (table .entry)) version number (now (block .entry))) blockSlots ⌝ }
 {
-    let mut j: usize = 0;
-    while j < BLOCK_SLOTS {
-        if slot_wrong(table, version, number, block, j) {
+    let mut tested: usize = 0;
+    while tested < BLOCK_SLOTS {
+        if slot_wrong(table, version, number, block, tested) {
             return true;
         }
-        j += 1;
+        tested += 1;
     }
     false
 }
@@ -123,9 +124,9 @@ pub fn load_slots(table: &mut [i64], number: usize, block: &[u8])
     requires { ⌜ length (now block) ≡ blockBytes ⌝ }
     ensures { λ r. ⌜ now (table .exit) ≡ loadedTo (now (table .entry)) number (now (block .entry)) blockSlots ⌝ }
 {
-    let mut j: usize = 0;
-    while j < BLOCK_SLOTS {
-        load_slot(table, number, block, j);
-        j += 1;
+    let mut written: usize = 0;
+    while written < BLOCK_SLOTS {
+        load_slot(table, number, block, written);
+        written += 1;
     }
 }

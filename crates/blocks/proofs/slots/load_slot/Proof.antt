@@ -1,11 +1,16 @@
 -- `blocks::slots::load_slot` meets its contract: a slot beyond the table is not written. Assumes nothing.
+use Prim.Native.Nat.{_+_}
 use borrow.Author.Needs.{needs}
 use borrow.Author.Tests.{lt-ltb, le-ltb}
+use Rattle.table.specs.Slots.{slots}
+use Rattle.blocks.specs.Slots.{firstSlot}
 use Rattle.blocks.proofs.slots.load_slot.Statement.{statement}
 use Rattle.blocks.proofs.slots.load_slot.Tie as tie
 
 beyond : tie.Need-returns
-beyond c = rw (le-ltb _ _ (c .if1 .taken))
+beyond c =
+    let a = c .before .before .args in
+    rw (le-ltb (firstSlot (a .number) + a .j) (slots (a .table .now)) (c .if1 .taken))
 
 written : tie.Need-returns-2
 written c =

@@ -10,28 +10,28 @@ use Rattle.blocks.proofs.slots.some_slot_wrong.Statement.{statement}
 use Rattle.blocks.proofs.slots.some_slot_wrong.Tie as tie
 
 abbrev Inv-loop : tie.InvT-loop
-Inv-loop table version number block j₀ j = (j ≤ blockSlots) × ((i : ℕ) → i < j → slotWrong table version number block i ≡ false)
+Inv-loop table version number block tested₀ tested = (tested ≤ blockSlots) × ((i : ℕ) → i < tested → slotWrong table version number block i ≡ false)
 
 abbrev μ-loop : tie.MeasureT-loop
-μ-loop table version number block j₀ j = blockSlots - j
+μ-loop table version number block tested₀ tested = blockSlots - tested
 
 -- the test was that of the slot at the place
-tested : (c : tie.After-slot-wrong Inv-loop μ-loop) → let l = c .before .before in
+test : (c : tie.After-slot-wrong Inv-loop μ-loop) → let l = c .before .before in
     let a = l .before .before .args in
-    c .slot-wrong .result ≡ slotWrong (a .table .now) (a .version) (a .number) (a .block .now) (l .loop .j)
-tested c = c .slot-wrong .ensures
+    c .slot-wrong .result ≡ slotWrong (a .table .now) (a .version) (a .number) (a .block .now) (l .loop .tested)
+test c = c .slot-wrong .ensures
 
 returns : tie.Need-returns Inv-loop μ-loop
 returns c =
     let l = c .before .before .before in
-    sym (some-yes _ _ (l .loop .j) (omega arith) (sym (tested (c .before)) ∙ c .if1 .taken))
+    sym (some-yes _ _ (l .loop .tested) (omega arith) (sym (test (c .before)) ∙ c .if1 .taken))
 
 loop-again : tie.Need-loop-again Inv-loop μ-loop
 loop-again c =
     let l = c .before .before .before in
     let a = l .before .before .args in
     let wrong = slotWrong (a .table .now) (a .version) (a .number) (a .block .now) in
-    (omega arith, below-next {p = wrong} (l .loop .inv .1) (sym (tested (c .before)) ∙ c .if1 .left))
+    (omega arith, below-next {p = wrong} (l .loop .inv .1) (sym (test (c .before)) ∙ c .if1 .left))
 
 returns-2 : tie.Need-returns-2 Inv-loop μ-loop
 returns-2 c = sym (all-fail _ _ (λ i h. c .before .loop .inv .1 i (omega arith)))
