@@ -6,6 +6,7 @@ pub mod Whole
 pub mod Accepted
 pub mod Refused
 pub mod Outcomes
+pub mod Places
 pub mod Running
 pub mod Insert
 pub mod Update

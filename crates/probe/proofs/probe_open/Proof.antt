@@ -1,0 +1,12 @@
+-- `probe::probe_open` meets its contract: it hands on to the call, and to the numbers of its answer. Assumes nothing.
+use borrow.Author.Needs.{needs}
+use Rattle.probe.specs.Probed.{outAfter}
+use Rattle.probe.proofs.probe_open.Statement.{statement}
+use Rattle.probe.proofs.probe_open.Tie as tie
+
+returns : tie.Need-returns
+unfolding outAfter
+returns c = let o = c .before in rw (c .numbered .ensures, o .open .ensures .answer, o .before .version-of .ensures)
+
+pub probe-open-spec : {M : Type 1} → statement M
+probe-open-spec = tie.close (tie.spec (λ c κs. search needs) (λ c κs. search needs) (λ c κs. search needs) returns)

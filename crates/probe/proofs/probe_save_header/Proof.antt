@@ -1,0 +1,15 @@
+-- `probe::probe_save_header` meets its contract: it hands on to the call, and to the numbers of its answer. Assumes nothing.
+use borrow.Author.Needs.{needs}
+use Rattle.probe.specs.Probed.{outAfter, blockAfter}
+use Rattle.probe.proofs.probe_save_header.Statement.{statement}
+use Rattle.probe.proofs.probe_save_header.Tie as tie
+
+returns : tie.Need-returns
+unfolding outAfter blockAfter
+returns c =
+    let s = c .before .before in
+    let v = s .before .version-of .ensures in
+    (rw (c .refusal .ensures, s .save-header .ensures .refusal, v), rw (s .save-header .ensures .block, v))
+
+pub probe-save-header-spec : {M : Type 1} → statement M
+probe-save-header-spec = tie.close (tie.spec (λ c κs. search needs) (λ c κs. search needs) (λ c κs. search needs) returns)

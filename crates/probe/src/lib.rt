@@ -1,0 +1,217 @@
+// Every call of the library as a C function, for programs that compare, fuzz or measure it; no client is promised them. The
+// record is four words (current, the run mark, and two that stay), the answer's numbers go into eight, a saved block into 512
+// bytes, and each of these is written whole.
+ghost use mathlib.Core.Path.{_≡_};
+ghost use mathlib.Core.List.{[]};
+ghost use Rattle.calls.specs.Calls.{openSession, begin, commit, readSlot, readKey, rollUp, insert, update, delete, saveHeader, saveBlock, loadHeader, loadBlock};
+ghost use Rattle.probe.specs.Probed.{lent, outAfter, tableAfter, recordAfter, blockAfter};
+
+mod answers;
+mod records;
+
+// open: current
+#[no_mangle]
+pub extern "C" fn probe_open(record_words: &[i64; 4], out: &mut [i64; 8])
+    ensures { λ _. ⌜ now (out .exit) ≡ outAfter openSession (lent [] (now (record_words .entry)) []) ⌝ }
+{
+    *out = answers::numbered(version::open(records::version_of(record_words)));
+}
+
+// begin: the run's number
+#[no_mangle]
+pub extern "C" fn probe_begin(record_words: &mut [i64; 4], out: &mut [i64; 8])
+    ensures { λ _. ⌜ now (out .exit) ≡ outAfter begin (lent [] (now (record_words .entry)) []) ⌝ }
+    ensures { λ _. ⌜ now (record_words .exit) ≡ recordAfter begin (now (record_words .entry)) (lent [] (now (record_words .entry)) []) ⌝ }
+{
+    let turned = version::begun(records::version_of(record_words));
+    let answer = turned.answer;
+    records::keep(record_words, turned.version);
+    *out = answers::numbered(answer);
+}
+
+// commit: the new current
+#[no_mangle]
+pub extern "C" fn probe_commit(record_words: &mut [i64; 4], out: &mut [i64; 8])
+    ensures { λ _. ⌜ now (out .exit) ≡ outAfter commit (lent [] (now (record_words .entry)) []) ⌝ }
+    ensures { λ _. ⌜ now (record_words .exit) ≡ recordAfter commit (now (record_words .entry)) (lent [] (now (record_words .entry)) []) ⌝ }
+{
+    let turned = version::committed(records::version_of(record_words));
+    let answer = turned.answer;
+    records::keep(record_words, turned.version);
+    *out = answers::numbered(answer);
+}
+
+// read a slot: mark 1 and the row, or zeros
+#[no_mangle]
+pub extern "C" fn probe_read_slot(
+    table: &[i64],
+    record_words: &[i64; 4],
+    session: i64,
+    slot: usize,
+    out: &mut [i64; 8],
+)
+    ensures { λ _. ⌜ now (out .exit) ≡ outAfter (readSlot session slot) (lent (now (table .entry)) (now (record_words .entry)) []) ⌝ }
+{
+    *out = answers::seen(reads::read_slot(table, records::version_of(record_words), session, slot));
+}
+
+// read a key: mark 1 and the row, or zeros
+#[no_mangle]
+pub extern "C" fn probe_read_key(
+    table: &[i64],
+    record_words: &[i64; 4],
+    session: i64,
+    one: i64,
+    two: i64,
+    out: &mut [i64; 8],
+)
+    ensures { λ _. ⌜ now (out .exit) ≡ outAfter (readKey session one two) (lent (now (table .entry)) (now (record_words .entry)) []) ⌝ }
+{
+    *out = answers::seen(reads::read_key(
+        table,
+        records::version_of(record_words),
+        session,
+        one,
+        two,
+    ));
+}
+
+// roll-up: count, sum one, sum two
+#[no_mangle]
+pub extern "C" fn probe_roll_up(
+    table: &[i64],
+    record_words: &[i64; 4],
+    session: i64,
+    one: i64,
+    out: &mut [i64; 8],
+)
+    ensures { λ _. ⌜ now (out .exit) ≡ outAfter (rollUp session one) (lent (now (table .entry)) (now (record_words .entry)) []) ⌝ }
+{
+    *out = answers::rolled(reads::roll_up(table, records::version_of(record_words), session, one));
+}
+
+// insert: the slot
+#[no_mangle]
+pub extern "C" fn probe_insert(
+    table: &mut [i64],
+    record_words: &[i64; 4],
+    one: i64,
+    two: i64,
+    first: i64,
+    second: i64,
+    out: &mut [i64; 8],
+)
+    ensures { λ _. ⌜ now (out .exit) ≡ outAfter (insert one two first second) (lent (now (table .entry)) (now (record_words .entry)) []) ⌝ }
+    ensures { λ _. ⌜ now (table .exit) ≡ tableAfter (insert one two first second) (lent (now (table .entry)) (now (record_words .entry)) []) ⌝ }
+{
+    *out = answers::placed(changes::insert(
+        table,
+        records::version_of(record_words),
+        one,
+        two,
+        first,
+        second,
+    ));
+}
+
+// update: the slot
+#[no_mangle]
+pub extern "C" fn probe_update(
+    table: &mut [i64],
+    record_words: &[i64; 4],
+    one: i64,
+    two: i64,
+    first: i64,
+    second: i64,
+    out: &mut [i64; 8],
+)
+    ensures { λ _. ⌜ now (out .exit) ≡ outAfter (update one two first second) (lent (now (table .entry)) (now (record_words .entry)) []) ⌝ }
+    ensures { λ _. ⌜ now (table .exit) ≡ tableAfter (update one two first second) (lent (now (table .entry)) (now (record_words .entry)) []) ⌝ }
+{
+    *out = answers::placed(changes::update(
+        table,
+        records::version_of(record_words),
+        one,
+        two,
+        first,
+        second,
+    ));
+}
+
+// delete: the slot
+#[no_mangle]
+pub extern "C" fn probe_delete(
+    table: &mut [i64],
+    record_words: &[i64; 4],
+    one: i64,
+    two: i64,
+    out: &mut [i64; 8],
+)
+    ensures { λ _. ⌜ now (out .exit) ≡ outAfter (delete one two) (lent (now (table .entry)) (now (record_words .entry)) []) ⌝ }
+    ensures { λ _. ⌜ now (table .exit) ≡ tableAfter (delete one two) (lent (now (table .entry)) (now (record_words .entry)) []) ⌝ }
+{
+    *out = answers::placed(changes::delete(table, records::version_of(record_words), one, two));
+}
+
+// save header: block 0
+#[no_mangle]
+pub extern "C" fn probe_save_header(
+    table: &[i64],
+    record_words: &[i64; 4],
+    block: &mut [u8; 512],
+    out: &mut [i64; 8],
+)
+    ensures { λ _. ⌜ now (out .exit) ≡ outAfter saveHeader (lent (now (table .entry)) (now (record_words .entry)) (now (block .entry))) ⌝ }
+    ensures { λ _. ⌜ now (block .exit) ≡ blockAfter saveHeader (lent (now (table .entry)) (now (record_words .entry)) (now (block .entry))) ⌝ }
+{
+    let saved = blocks::save_header(table, records::version_of(record_words));
+    let bytes = saved.block;
+    *block = bytes;
+    *out = answers::refusal(saved.refusal);
+}
+
+// save block: block k from 1
+#[no_mangle]
+pub extern "C" fn probe_save_block(
+    table: &[i64],
+    record_words: &[i64; 4],
+    number: usize,
+    block: &mut [u8; 512],
+    out: &mut [i64; 8],
+)
+    ensures { λ _. ⌜ now (out .exit) ≡ outAfter (saveBlock number) (lent (now (table .entry)) (now (record_words .entry)) (now (block .entry))) ⌝ }
+    ensures { λ _. ⌜ now (block .exit) ≡ blockAfter (saveBlock number) (lent (now (table .entry)) (now (record_words .entry)) (now (block .entry))) ⌝ }
+{
+    let saved = blocks::save_block(table, records::version_of(record_words), number);
+    let bytes = saved.block;
+    *block = bytes;
+    *out = answers::refusal(saved.refusal);
+}
+
+// load header: slots, current
+#[no_mangle]
+pub extern "C" fn probe_load_header(block: &[u8], out: &mut [i64; 8])
+    ensures { λ _. ⌜ now (out .exit) ≡ outAfter (loadHeader (now (block .entry))) (lent [] [] []) ⌝ }
+{
+    *out = answers::header(blocks::load_header(block));
+}
+
+// load block: its slots
+#[no_mangle]
+pub extern "C" fn probe_load_block(
+    table: &mut [i64],
+    record_words: &[i64; 4],
+    number: usize,
+    block: &[u8],
+    out: &mut [i64; 8],
+)
+    ensures { λ _. ⌜ now (out .exit) ≡ outAfter (loadBlock number (now (block .entry))) (lent (now (table .entry)) (now (record_words .entry)) []) ⌝ }
+    ensures { λ _. ⌜ now (table .exit) ≡ tableAfter (loadBlock number (now (block .entry))) (lent (now (table .entry)) (now (record_words .entry)) []) ⌝ }
+{
+    *out = answers::loaded(blocks::load_block(
+        table,
+        records::version_of(record_words),
+        number,
+        block,
+    ));
+}
