@@ -1,3 +1,7 @@
+pub mod Seen
+pub mod Rolled
+pub mod Placed
+pub mod Terms
 pub mod Calls
 pub mod Numbers
 pub mod Perform

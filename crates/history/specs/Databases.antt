@@ -3,11 +3,10 @@
 use mathlib.Core.Bool.{Bool, false, cond, _&&_, _||_}
 use mathlib.Core.List.{List, [], _∷_, _++_, map}
 use lib.IntN.{ℤ}
-use Rattle.laws.specs.Order.{eqZ}
-use Rattle.reads.specs.declared.Seen.{Seen}
-use Rattle.reads.specs.declared.Seen.the-variants as seen
-use Rattle.reads.specs.declared.Rolled.{Rolled}
-use Rattle.reads.specs.RollUp.{tally, sums}
+use Rattle.calls.specs.Seen.{Seen}
+use Rattle.calls.specs.Seen as seen
+use Rattle.calls.specs.Rolled.{Rolled}
+use Rattle.calls.specs.Terms.{eqZ, tally, sums}
 
 -- a row: a key of two words, and two totals
 pub record Row : Type 0 where

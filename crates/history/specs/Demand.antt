@@ -6,11 +6,11 @@ use mathlib.Core.List.{List, [], _∷_, _++_, Perm}
 use Prim.Native.Nat.{ℕ, zero, suc, _+_, _≤_, _<_}
 use lib.IntN.{ℤ, pos}
 use lib.ListN.{length}
-use Rattle.table.specs.Totals.{unlawful}
-use Rattle.reads.specs.declared.Seen.{Seen}
-use Rattle.reads.specs.declared.Seen.the-variants as seen
-use Rattle.reads.specs.declared.Rolled.the-variants as rolled
-use Rattle.changes.specs.declared.Placed.the-variants as placed
+use Rattle.calls.specs.Terms.{unlawful}
+use Rattle.calls.specs.Seen.{Seen}
+use Rattle.calls.specs.Seen as seen
+use Rattle.calls.specs.Rolled as rolled
+use Rattle.calls.specs.Placed as placed
 use Rattle.calls.specs.Calls.{Call, readSlot, readKey, rollUp, insert, update, delete, Answer}
 use Rattle.calls.specs.Calls as answer
 use Rattle.history.specs.Databases.{Row, Database, row, holds, found, rolledUp, together}

@@ -5,7 +5,7 @@ use mathlib.Core.List.{List, [], _∷_, _++_}
 use Prim.Native.Nat.{ℕ, suc, _-_, _≤_}
 use lib.IntN.{pos}
 use lib.ListN.{length, getD}
-use Rattle.laws.specs.Order.{eqZ}
+use Rattle.calls.specs.Terms.{eqZ}
 use Rattle.calls.specs.Calls.{Call, openSession, begin, commit, readSlot, readKey, rollUp, insert, update, delete, saveHeader, saveBlock, loadHeader, loadBlock, Answer}
 use Rattle.calls.specs.Numbers.{numbers}
 use Rattle.history.specs.Databases.{Database, placed, without}

@@ -5,8 +5,7 @@ use mathlib.Core.Bool.{Bool, true, false}
 use mathlib.Core.List.{List, [], _∷_}
 use Prim.Native.Nat.{ℕ, _≤_}
 use lib.IntN.{pos}
-use Rattle.version.specs.Record.{freshRecord}
-use Rattle.table.specs.Slots.{freshTable}
+use Rattle.calls.specs.Terms.{freshRecord, freshTable}
 use Rattle.calls.specs.Calls.{Call, openSession, begin, commit, readSlot, readKey, rollUp, insert, update, delete, saveHeader, saveBlock, loadHeader, loadBlock, Answer}
 use Rattle.calls.specs.Perform.{State, perform}
 use Rattle.history.specs.Followed.{Followed, start, accepted, followed}
