@@ -1,3 +1,15 @@
 pub mod Numerals
 pub mod Commands
 pub mod Replies
+pub mod Written
+pub mod ReadDigits
+pub mod NumeralLaws
+pub mod FieldLaws
+pub mod CountLaws
+pub mod CommandLaws
+pub mod LongLaws
+pub mod ReadBack
+pub mod WrittenLaws
+pub mod DecimalLaws
+pub mod SignLaws
+pub mod LineLaws

@@ -58,11 +58,15 @@ numberOf [] = Bad
 numberOf (b ∷ bs) = cond (eqb b minusByte) (minusOf bs) (unsignedOf (b ∷ bs))
 
 -- ---- a number written
+-- the digits of 2^64 - 1, the largest number that is written
+abbrev pub mostWritten : ℕ
+mostWritten = 20
+
 -- its digits, the highest first and no zero before them; so many at most
 abbrev pub decimal : ℕ → ℕ → List ℕ
 decimal zero n = []
 decimal (suc most) n = cond (ltb n 10) ((zeroByte + n) ∷ []) (decimal most (n / 10) ++ ((zeroByte + n % 10) ∷ []))
 
 unfoldable pub numeral : ℤ → List ℕ
-numeral (pos n) = decimal mostDigits n
-numeral (negsuc n) = minusByte ∷ decimal mostDigits (suc n)
+numeral (pos n) = decimal mostWritten n
+numeral (negsuc n) = minusByte ∷ decimal mostWritten (suc n)
