@@ -1,0 +1,12 @@
+-- `stepper::flush` meets its contract: the part that is written is as long as the place. Assumes nothing.
+use native.Mathlib.Omega.{arith}
+use lib.ListN.{length-take}
+use borrow.Author.Needs.{needs}
+use Rattle.stepper.proofs.flush.Statement.{statement}
+use Rattle.stepper.proofs.flush.Tie as tie
+
+part : tie.Need-slice-aggregate-write-all
+part c = let a = c .before .before .args in omega (arith, c .before .before .pre, length-take (a .progress .place) (a .buffer .now))
+
+pub flush-spec : {M : Type 1} → statement M
+flush-spec = tie.close (tie.spec part (λ c κs. search needs) (λ c. search needs))

@@ -1,0 +1,4 @@
+// The program `steps` of document 01, over its session there.
+fn main() {
+    stepper::run();
+}
