@@ -1,0 +1,126 @@
+//! The arguments of calls: mostly sensible ones, and some that are odd.
+
+use crate::block::{self, SLOTS_IN_A_BLOCK};
+use crate::call::{Call, Kind, Lent};
+use crate::damage;
+use crate::edges;
+use crate::hostile;
+use crate::random::Random;
+use crate::record::Version;
+use crate::slot::{Key, Slot, Totals};
+
+/// What arguments are drawn from.
+pub struct Arguments {
+    pub keys: Vec<Key>,
+    /// how many arguments of a hundred are odd
+    pub odd: usize,
+}
+
+impl Arguments {
+    pub fn call(&self, random: &mut Random, kind: Kind, lent: &Lent) -> Call {
+        match kind {
+            Kind::Open => Call::Open,
+            Kind::Begin => Call::Begin,
+            Kind::Commit => Call::Commit,
+            Kind::ReadSlot => Call::ReadSlot {
+                session: self.session(random, lent),
+                slot: self.place(random, 0, slot_count(lent)),
+            },
+            Kind::ReadKey => Call::ReadKey {
+                session: self.session(random, lent),
+                key: self.key(random),
+            },
+            Kind::RollUp => Call::RollUp {
+                session: self.session(random, lent),
+                one: self.key(random).one,
+            },
+            Kind::Insert => Call::Insert {
+                key: self.key(random),
+                totals: self.totals(random),
+            },
+            Kind::Update => Call::Update {
+                key: self.key(random),
+                totals: self.totals(random),
+            },
+            Kind::Delete => Call::Delete {
+                key: self.key(random),
+            },
+            Kind::SaveHeader => Call::SaveHeader,
+            Kind::SaveBlock => Call::SaveBlock {
+                number: self.number(random, lent),
+            },
+            Kind::LoadHeader => Call::LoadHeader {
+                block: damage::header(random),
+            },
+            Kind::LoadBlock => self.load_block(random, lent),
+        }
+    }
+
+    /// A session at or beside the current version.
+    fn session(&self, random: &mut Random, lent: &Lent) -> i64 {
+        let current = lent.record.words[0];
+        if random.percent(self.odd) {
+            return edges::word_near(random, current);
+        }
+        current.wrapping_sub(random.weighted(&[(10, 0), (8, 1), (2, 2), (1, 3), (1, -1)]))
+    }
+
+    /// A place from the first up, below the end, or one that is not there.
+    fn place(&self, random: &mut Random, first: usize, end: usize) -> u64 {
+        if end <= first || random.percent(self.odd) {
+            return match random.below(4) {
+                0 => 1 << random.pick(&[32, 61, 63]),
+                1 => (1 << random.pick(&[32, 61, 63])) + random.below(4) as u64,
+                2 => edges::word(random) as u64,
+                _ => (end as u64).wrapping_add(random.pick(&[0, 1, 7, u64::MAX])),
+            };
+        }
+        (first + random.below(end - first)) as u64
+    }
+
+    fn number(&self, random: &mut Random, lent: &Lent) -> u64 {
+        self.place(random, 1, block::last_number(slot_count(lent)) + 1)
+    }
+
+    fn key(&self, random: &mut Random) -> Key {
+        if random.percent(self.odd / 4) {
+            return edges::keys(random, 1)[0];
+        }
+        random.pick(&self.keys)
+    }
+
+    fn totals(&self, random: &mut Random) -> Totals {
+        if random.percent(self.odd) {
+            return edges::unlawful_totals(random);
+        }
+        edges::totals(random)
+    }
+
+    fn load_block(&self, random: &mut Random, lent: &Lent) -> Call {
+        let number = self.number(random, lent);
+        let slots = slot_count(lent).max(1);
+        let version = Version {
+            current: lent.record.words[0],
+            run_active: false,
+        };
+        let written = (number as usize).clamp(1, block::last_number(slots));
+        let held = if random.percent(self.odd) {
+            SLOTS_IN_A_BLOCK // also beyond the table
+        } else {
+            block::places(written, slots).len()
+        };
+        let mut slots_held: Vec<Slot> = (0..held)
+            .map(|_| hostile::well_formed_slot(random, version, &self.keys))
+            .collect();
+        if random.percent(self.odd) {
+            let place = random.below(slots_held.len());
+            slots_held[place] = hostile::slot(random, version, &self.keys);
+        }
+        let block = damage::of_slots(random, written, slots, &slots_held);
+        Call::LoadBlock { number, block }
+    }
+}
+
+fn slot_count(lent: &Lent) -> usize {
+    lent.table.slots().unwrap_or(0)
+}

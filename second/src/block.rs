@@ -1,0 +1,148 @@
+//! The block of 512 bytes.
+
+use crate::record::{LARGEST_VERSION, Version};
+use crate::refusal::Refusal;
+use crate::slot::{SLOT_WORDS, Slot};
+use crate::table::{MOST_SLOTS, Table};
+
+pub const BLOCK_BYTES: usize = 512;
+pub const BLOCK_WORDS: usize = 128;
+pub const SLOTS_IN_A_BLOCK: usize = 7;
+
+pub const CHECK: usize = 127;
+pub const FIRST_FILLER: usize = 113;
+pub const HEADER_SLOTS: usize = 1;
+pub const HEADER_CURRENT: usize = 2;
+pub const HEADER_FIRST_FILLER: usize = 3;
+pub const SLOT_HALVES: usize = 2 * SLOT_WORDS;
+
+const HALF_BYTES: usize = 4;
+
+/// A block as its 128 words.
+#[derive(Clone, Copy, PartialEq, Eq, Debug)]
+pub struct Block {
+    pub words: [u32; BLOCK_WORDS],
+}
+
+/// The number of blocks that hold so many slots; block 0 is not counted.
+pub fn last_number(slots: usize) -> usize {
+    slots.div_ceil(SLOTS_IN_A_BLOCK)
+}
+
+/// The places of the block's slots that the table has.
+pub fn places(number: usize, slots: usize) -> std::ops::Range<usize> {
+    let first = SLOTS_IN_A_BLOCK * (number - 1);
+    first..slots.min(first + SLOTS_IN_A_BLOCK)
+}
+
+impl Block {
+    fn zeros() -> Block {
+        Block {
+            words: [0; BLOCK_WORDS],
+        }
+    }
+
+    pub fn header(slots: usize, current: i64) -> Block {
+        let mut block = Block::zeros();
+        block.words[HEADER_SLOTS] = slots as u32;
+        block.words[HEADER_CURRENT] = current as u32;
+        block.mend();
+        block
+    }
+
+    /// A block of slots, seven at the most.
+    pub fn of_slots(number: usize, slots: &[Slot]) -> Block {
+        let mut block = Block::zeros();
+        block.words[0] = number as u32;
+        let words = slots.iter().flat_map(Slot::words);
+        for (halves, word) in block.words[1..CHECK].chunks_exact_mut(2).zip(words) {
+            halves[0] = word as u32;
+            halves[1] = (word >> 32) as u32;
+        }
+        block.mend();
+        block
+    }
+
+    fn total(&self) -> u32 {
+        let summed = &self.words[..CHECK];
+        summed.iter().fold(0, |sum, &word| sum.wrapping_add(word))
+    }
+
+    /// Makes the check right.
+    pub fn mend(&mut self) {
+        self.words[CHECK] = self.total();
+    }
+
+    pub fn bytes(&self) -> Vec<u8> {
+        self.words.iter().flat_map(|w| w.to_le_bytes()).collect()
+    }
+
+    /// Refusals 14 and 15.
+    pub fn from_bytes(bytes: &[u8]) -> Result<Block, Refusal> {
+        if bytes.len() != BLOCK_BYTES {
+            return Err(Refusal::BlockLength);
+        }
+        let mut block = Block::zeros();
+        for (word, four) in block.words.iter_mut().zip(bytes.chunks_exact(HALF_BYTES)) {
+            *word = u32::from_le_bytes([four[0], four[1], four[2], four[3]]);
+        }
+        if block.words[CHECK] != block.total() {
+            return Err(Refusal::BlockCheck);
+        }
+        Ok(block)
+    }
+
+    fn is_zero_from(&self, first: usize) -> bool {
+        self.words[first..CHECK].iter().all(|&word| word == 0)
+    }
+
+    /// The slots and the current version of block 0, or refusal 16.
+    pub fn read_header(&self) -> Result<(usize, i64), Refusal> {
+        let slots = self.words[HEADER_SLOTS] as usize;
+        let current = i64::from(self.words[HEADER_CURRENT]);
+        let allowed = self.words[0] == 0
+            && (1..=MOST_SLOTS).contains(&slots)
+            && (1..=LARGEST_VERSION).contains(&current)
+            && self.is_zero_from(HEADER_FIRST_FILLER);
+        if !allowed {
+            return Err(Refusal::BlockField);
+        }
+        Ok((slots, current))
+    }
+
+    fn slot(&self, index: usize) -> Slot {
+        let halves = &self.words[1 + index * SLOT_HALVES..][..SLOT_HALVES];
+        let words: Vec<i64> = halves
+            .chunks_exact(2)
+            .map(|half| i64::from(half[0]) | (i64::from(half[1]) << 32))
+            .collect();
+        Slot::from_words(&words)
+    }
+
+    /// The slots of block `number` of a table of so many slots, or refusal 16.
+    pub fn read_slots(
+        &self,
+        number: usize,
+        slots: usize,
+        version: Version,
+    ) -> Result<Vec<Slot>, Refusal> {
+        let held = places(number, slots).len();
+        let read: Vec<Slot> = (0..held).map(|index| self.slot(index)).collect();
+        let allowed = self.words[0] as usize == number
+            && self.is_zero_from(1 + held * SLOT_HALVES)
+            && read.iter().all(|slot| slot.is_well_formed(version));
+        if !allowed {
+            return Err(Refusal::BlockField);
+        }
+        Ok(read)
+    }
+
+    /// Block `number` of the table, or refusal 6.
+    pub fn save(table: &Table, number: usize, version: Version) -> Result<Block, Refusal> {
+        let slots = table.slots()?;
+        let held: Result<Vec<Slot>, Refusal> = places(number, slots)
+            .map(|place| table.well_formed_slot(place, version))
+            .collect();
+        Ok(Block::of_slots(number, &held?))
+    }
+}

@@ -1,0 +1,231 @@
+//! The calls, their answers, and the numbers that a C caller gets.
+
+use crate::block::{BLOCK_BYTES, Block};
+use crate::record::VersionRecord;
+use crate::refusal::Refusal;
+use crate::slot::{Key, Row, Totals};
+use crate::table::Table;
+use std::fmt;
+
+pub const OUT_WORDS: usize = 8;
+
+/// The eight words that every call leaves.
+pub type Out = [i64; OUT_WORDS];
+
+/// What a caller lends: the table and the record.
+#[derive(Clone, PartialEq, Eq, Debug)]
+pub struct Lent {
+    pub table: Table,
+    pub record: VersionRecord,
+}
+
+#[derive(Clone, Copy, PartialEq, Eq, Debug)]
+pub enum Kind {
+    Open,
+    Begin,
+    Commit,
+    ReadSlot,
+    ReadKey,
+    RollUp,
+    Insert,
+    Update,
+    Delete,
+    SaveHeader,
+    SaveBlock,
+    LoadHeader,
+    LoadBlock,
+}
+
+/// Every kind of call, in the order of their numbers.
+pub const KINDS: [Kind; 13] = [
+    Kind::Open,
+    Kind::Begin,
+    Kind::Commit,
+    Kind::ReadSlot,
+    Kind::ReadKey,
+    Kind::RollUp,
+    Kind::Insert,
+    Kind::Update,
+    Kind::Delete,
+    Kind::SaveHeader,
+    Kind::SaveBlock,
+    Kind::LoadHeader,
+    Kind::LoadBlock,
+];
+
+#[derive(Clone, PartialEq, Eq, Debug)]
+pub enum Call {
+    Open,
+    Begin,
+    Commit,
+    ReadSlot { session: i64, slot: u64 },
+    ReadKey { session: i64, key: Key },
+    RollUp { session: i64, one: i64 },
+    Insert { key: Key, totals: Totals },
+    Update { key: Key, totals: Totals },
+    Delete { key: Key },
+    SaveHeader,
+    SaveBlock { number: u64 },
+    LoadHeader { block: Vec<u8> },
+    LoadBlock { number: u64, block: Vec<u8> },
+}
+
+#[derive(Clone, PartialEq, Eq, Debug)]
+pub enum Answer {
+    Version(i64),
+    Row(Option<Row>),
+    RollUp { count: i64, sums: Totals },
+    Slot(usize),
+    Saved(Box<Block>),
+    Header { slots: usize, current: i64 },
+    Loaded,
+}
+
+impl Kind {
+    pub fn number(self) -> i64 {
+        self as i64
+    }
+}
+
+impl Call {
+    pub fn kind(&self) -> Kind {
+        match self {
+            Call::Open => Kind::Open,
+            Call::Begin => Kind::Begin,
+            Call::Commit => Kind::Commit,
+            Call::ReadSlot { .. } => Kind::ReadSlot,
+            Call::ReadKey { .. } => Kind::ReadKey,
+            Call::RollUp { .. } => Kind::RollUp,
+            Call::Insert { .. } => Kind::Insert,
+            Call::Update { .. } => Kind::Update,
+            Call::Delete { .. } => Kind::Delete,
+            Call::SaveHeader => Kind::SaveHeader,
+            Call::SaveBlock { .. } => Kind::SaveBlock,
+            Call::LoadHeader { .. } => Kind::LoadHeader,
+            Call::LoadBlock { .. } => Kind::LoadBlock,
+        }
+    }
+
+    /// The call's numbers in the order of the C function, unused ones zero.
+    pub fn numbers(&self) -> [i64; 4] {
+        match *self {
+            Call::ReadSlot { session, slot } => [session, slot as i64, 0, 0],
+            Call::ReadKey { session, key } => [session, key.one, key.two, 0],
+            Call::RollUp { session, one } => [session, one, 0, 0],
+            Call::Insert { key, totals } | Call::Update { key, totals } => {
+                [key.one, key.two, totals[0], totals[1]]
+            }
+            Call::Delete { key } => [key.one, key.two, 0, 0],
+            Call::SaveBlock { number } | Call::LoadBlock { number, .. } => [number as i64, 0, 0, 0],
+            _ => [0; 4],
+        }
+    }
+
+    /// The same call with other numbers.
+    pub fn with_numbers(&self, numbers: [i64; 4]) -> Call {
+        let [a, b, c, d] = numbers;
+        let key = Key { one: a, two: b };
+        let totals = [c, d];
+        match self.clone() {
+            Call::ReadSlot { .. } => Call::ReadSlot {
+                session: a,
+                slot: b as u64,
+            },
+            Call::ReadKey { .. } => Call::ReadKey {
+                session: a,
+                key: Key { one: b, two: c },
+            },
+            Call::RollUp { .. } => Call::RollUp { session: a, one: b },
+            Call::Insert { .. } => Call::Insert { key, totals },
+            Call::Update { .. } => Call::Update { key, totals },
+            Call::Delete { .. } => Call::Delete { key },
+            Call::SaveBlock { .. } => Call::SaveBlock { number: a as u64 },
+            Call::LoadBlock { block, .. } => Call::LoadBlock {
+                number: a as u64,
+                block,
+            },
+            other => other,
+        }
+    }
+
+    /// The block that is lent to the call: the one to load, or room for a save.
+    pub fn lent_block(&self) -> &[u8] {
+        const ROOM: [u8; BLOCK_BYTES] = [0xc3; BLOCK_BYTES];
+        match self {
+            Call::SaveHeader | Call::SaveBlock { .. } => &ROOM,
+            Call::LoadHeader { block } | Call::LoadBlock { block, .. } => block,
+            _ => &[],
+        }
+    }
+
+    /// The block as the call leaves it.
+    pub fn left_block(&self, outcome: &Result<Answer, Refusal>) -> Vec<u8> {
+        match (self.kind(), outcome) {
+            (_, Ok(Answer::Saved(block))) => block.bytes(),
+            (Kind::SaveHeader | Kind::SaveBlock, Err(_)) => vec![0; BLOCK_BYTES],
+            _ => self.lent_block().to_vec(),
+        }
+    }
+}
+
+/// The eight words for an answer or a refusal.
+pub fn out_words(outcome: &Result<Answer, Refusal>) -> Out {
+    let mut out = [0; OUT_WORDS];
+    let numbers: Vec<i64> = match outcome {
+        Err(refusal) => {
+            out[0] = refusal.number();
+            vec![]
+        }
+        Ok(Answer::Version(version)) => vec![*version],
+        Ok(Answer::Row(None) | Answer::Saved(_) | Answer::Loaded) => vec![],
+        Ok(Answer::Row(Some(row))) => {
+            vec![1, row.key.one, row.key.two, row.totals[0], row.totals[1]]
+        }
+        Ok(Answer::RollUp { count, sums }) => vec![*count, sums[0], sums[1]],
+        Ok(Answer::Slot(place)) => vec![*place as i64],
+        Ok(Answer::Header { slots, current }) => vec![*slots as i64, *current],
+    };
+    out[1..=numbers.len()].copy_from_slice(&numbers);
+    out
+}
+
+impl fmt::Display for Call {
+    fn fmt(&self, f: &mut fmt::Formatter<'_>) -> fmt::Result {
+        match self {
+            Call::ReadSlot { session, slot } => write!(f, "read slot {slot} at session {session}"),
+            Call::ReadKey { session, key } => {
+                write!(f, "read key {} {} at session {session}", key.one, key.two)
+            }
+            Call::RollUp { session, one } => write!(f, "roll-up of {one} at session {session}"),
+            Call::Insert { key, totals } | Call::Update { key, totals } => {
+                let name = format!("{:?}", self.kind()).to_lowercase();
+                let [first, second] = totals;
+                write!(f, "{name} {} {}, totals {first} {second}", key.one, key.two)
+            }
+            Call::Delete { key } => write!(f, "delete {} {}", key.one, key.two),
+            Call::SaveHeader => write!(f, "save header"),
+            Call::SaveBlock { number } => write!(f, "save block {number}"),
+            Call::LoadHeader { block } => write!(f, "load header from {}", shown(block)),
+            Call::LoadBlock { number, block } => {
+                write!(f, "load block {number} from {}", shown(block))
+            }
+            _ => write!(f, "{}", format!("{:?}", self.kind()).to_lowercase()),
+        }
+    }
+}
+
+/// A block's length and its nonzero words.
+fn shown(block: &[u8]) -> String {
+    let words = block.chunks(4).enumerate();
+    let nonzero = words.filter(|(_, four)| four.iter().any(|&byte| byte != 0));
+    let listed: Vec<String> = nonzero
+        .map(|(index, four)| {
+            let value = four
+                .iter()
+                .rev()
+                .fold(0, |sum: u32, &b| sum << 8 | u32::from(b));
+            format!("{index}={value}")
+        })
+        .collect();
+    format!("{} bytes, words [{}]", block.len(), listed.join(" "))
+}

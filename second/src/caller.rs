@@ -1,0 +1,165 @@
+//! The caller: the C program that makes the library's calls, and its protocol.
+
+use crate::call::{Call, Lent, OUT_WORDS, Out};
+use crate::record::RECORD_WORDS;
+use std::io::{self, Read, Write};
+use std::process::{Child, ChildStdin, ChildStdout, Command, Stdio};
+
+/// What the caller fills the room around each thing lent with.
+pub const GUARD_WORD: i64 = 0xa5a5_a5a5_a5a5_a5a5_u64 as i64;
+
+const WORD_BYTES: usize = 8;
+const GUARDS_STAND: i64 = 0;
+
+/// Everything that a call left.
+#[derive(Clone, PartialEq, Eq, Debug)]
+pub struct Left {
+    pub guards_stand: bool,
+    pub out: Out,
+    pub lent: Lent,
+    pub block: Vec<u8>,
+}
+
+/// The caller at work. It is started again if it has ended.
+pub struct Caller {
+    command: Vec<String>,
+    process: Option<Process>,
+}
+
+struct Process {
+    child: Child,
+    input: ChildStdin,
+    output: ChildStdout,
+}
+
+impl Caller {
+    pub fn new(command: &[String]) -> Caller {
+        Caller {
+            command: command.to_vec(),
+            process: None,
+        }
+    }
+
+    fn process(&mut self) -> io::Result<&mut Process> {
+        if self.process.is_none() {
+            let mut child = Command::new(&self.command[0])
+                .args(&self.command[1..])
+                .stdin(Stdio::piped())
+                .stdout(Stdio::piped())
+                .spawn()?;
+            let input = child.stdin.take().expect("the input is piped");
+            let output = child.stdout.take().expect("the output is piped");
+            self.process = Some(Process {
+                child,
+                input,
+                output,
+            });
+        }
+        Ok(self.process.as_mut().expect("the process was just started"))
+    }
+
+    /// Sends the requests of a batch, none of them more than once.
+    pub fn send(&mut self, requests: &[u8]) -> io::Result<()> {
+        let words = (requests.len() / WORD_BYTES) as u64;
+        let process = self.process()?;
+        let sent = process
+            .input
+            .write_all(&words.to_le_bytes())
+            .and_then(|()| process.input.write_all(requests))
+            .and_then(|()| process.input.flush());
+        self.ended_if(sent)
+    }
+
+    /// Receives so many bytes of answers.
+    pub fn receive(&mut self, bytes: usize) -> io::Result<Vec<u8>> {
+        let mut answers = vec![0; bytes];
+        let received = self.process()?.output.read_exact(&mut answers);
+        self.ended_if(received)?;
+        Ok(answers)
+    }
+
+    /// Forgets the process if it failed, so that the next batch has a new one.
+    fn ended_if(&mut self, done: io::Result<()>) -> io::Result<()> {
+        if done.is_err() {
+            self.stop();
+        }
+        done
+    }
+
+    fn stop(&mut self) {
+        if let Some(mut process) = self.process.take() {
+            drop(process.input);
+            drop(process.output);
+            // it may have ended by itself, and then there is nothing to end
+            let _ = process.child.kill();
+            let _ = process.child.wait();
+        }
+    }
+}
+
+impl Drop for Caller {
+    fn drop(&mut self) {
+        self.stop();
+    }
+}
+
+fn put_words(buffer: &mut Vec<u8>, words: &[i64]) {
+    for word in words {
+        buffer.extend_from_slice(&word.to_le_bytes());
+    }
+}
+
+fn put_padded(buffer: &mut Vec<u8>, bytes: &[u8]) {
+    buffer.extend_from_slice(bytes);
+    buffer.resize(buffer.len().next_multiple_of(WORD_BYTES), 0);
+}
+
+/// Appends the request for a call on what is lent.
+pub fn put_request(buffer: &mut Vec<u8>, call: &Call, lent: &Lent) {
+    let block = call.lent_block();
+    put_words(buffer, &[call.kind().number()]);
+    put_words(buffer, &call.numbers());
+    put_words(buffer, &lent.record.words);
+    put_words(buffer, &[lent.table.words.len() as i64, block.len() as i64]);
+    put_words(buffer, &lent.table.words);
+    put_padded(buffer, block);
+}
+
+/// Appends the answer as the caller gives it.
+pub fn put_answer(buffer: &mut Vec<u8>, out: &Out, lent: &Lent, block: &[u8]) {
+    put_words(buffer, &[GUARDS_STAND]);
+    put_words(buffer, out);
+    put_words(buffer, &lent.record.words);
+    put_words(buffer, &lent.table.words);
+    put_padded(buffer, block);
+}
+
+fn word(answer: &[u8], index: usize) -> i64 {
+    let bytes = &answer[index * WORD_BYTES..][..WORD_BYTES];
+    i64::from_le_bytes(bytes.try_into().expect("a word is eight bytes"))
+}
+
+/// The eight words of an answer.
+pub fn out_of(answer: &[u8]) -> Out {
+    std::array::from_fn(|index| word(answer, 1 + index))
+}
+
+/// Parts an answer to a call that was lent a table and a block of these lengths.
+pub fn part_answer(answer: &[u8], words: usize, bytes: usize) -> Left {
+    let record_at = 1 + OUT_WORDS;
+    let table_at = record_at + RECORD_WORDS;
+    let block_at = (table_at + words) * WORD_BYTES;
+    let record = std::array::from_fn(|index| word(answer, record_at + index));
+    let table = (0..words).map(|index| word(answer, table_at + index));
+    Left {
+        guards_stand: word(answer, 0) == GUARDS_STAND,
+        out: out_of(answer),
+        lent: Lent {
+            table: crate::table::Table {
+                words: table.collect(),
+            },
+            record: crate::record::VersionRecord { words: record },
+        },
+        block: answer[block_at..][..bytes].to_vec(),
+    }
+}

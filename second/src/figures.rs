@@ -1,0 +1,288 @@
+//! Document 01's figures, by which the model itself is held to the document.
+
+use crate::block::{BLOCK_BYTES, Block};
+use crate::call::{Call, Lent, OUT_WORDS, out_words};
+use crate::case::Case;
+use crate::model;
+use crate::record::VersionRecord;
+use crate::slot::{Key, LARGEST_TOTAL};
+use crate::steps;
+use crate::table::Table;
+
+/// The source's Figure 4, and an empty slot.
+const FIGURE_4: [[i64; 8]; 5] = [
+    [3, 1, 1, 19_961_014, 10_000, 0, 0, 0],
+    [4, 1, 1, 19_961_015, 1_500, 0, 0, 0],
+    [4, 2, 2, 19_961_014, 12_000, 0, 10_000, 0],
+    [4, 3, 3, 19_961_013, 8_000, 0, 8_000, 0],
+    [0; 8],
+];
+
+/// Figure 6, with the places that slots are taken in.
+const FIGURE_6: [[i64; 8]; 5] = [
+    [5, 2, 1, 19_961_014, 10_200, 0, 10_000, 0],
+    [4, 1, 1, 19_961_015, 1_500, 0, 0, 0],
+    [5, 3, 2, 19_961_014, 12_000, 0, 12_000, 0],
+    [5, 1, 1, 19_961_016, 11_000, 0, 0, 0],
+    [5, 1, 3, 19_961_013, 6_000, 0, 0, 0],
+];
+
+pub const STEPS_INPUT: &str = "\
+B
+I 1 19961014 10000 0
+I 1 19961015 1500 0
+C
+B
+U 1 19961014 10200 0
+U 1 19961014 10300 0
+D 1 19961015
+R 2 1 19961014
+R 1 1 19961014
+C
+R 2 1 19961015
+R 3 1 19961014
+R 3 1 19961015
+";
+
+const STEPS_OUTPUT: &str = "\
+version 2
+slot 0
+slot 1
+version 2
+version 3
+slot 0
+slot 0
+slot 1
+row 10000 0
+refused 4
+version 3
+row 1500 0
+row 10300 0
+none
+";
+
+/// What a call of a figure is to give: the first numbers, zeros after them, or
+/// the check of the block that it saves.
+enum Gives {
+    Numbers(Vec<i64>),
+    Check(u32),
+}
+
+/// A case whose outcome the document says.
+struct Figure {
+    start: Lent,
+    calls: Vec<(Call, Gives)>,
+    end: Option<Vec<i64>>,
+}
+
+/// The cases of the figures, or what the model gives otherwise than the document.
+pub fn cases() -> Result<Vec<Case>, String> {
+    if steps::output(STEPS_INPUT.as_bytes()) != STEPS_OUTPUT {
+        return Err("the session of the program steps".to_string());
+    }
+    let figures = [
+        reads_of_figure_4(),
+        changes_of_figure_5(),
+        net_effects(),
+        one_slot(),
+        totals(),
+        checks(0, 19_971_019),
+        checks(-1, 19_971_017),
+    ];
+    figures.into_iter().map(held_to).collect()
+}
+
+fn held_to(figure: Figure) -> Result<Case, String> {
+    let mut lent = figure.start.clone();
+    for (call, gives) in &figure.calls {
+        let outcome = model::make(call, &mut lent);
+        let right = match gives {
+            Gives::Numbers(numbers) => {
+                let mut out = numbers.clone();
+                out.resize(OUT_WORDS, 0);
+                out_words(&outcome).as_slice() == out
+            }
+            Gives::Check(check) => {
+                call.left_block(&outcome)[BLOCK_BYTES - 4..] == check.to_le_bytes()
+            }
+        };
+        if !right {
+            return Err(format!("{call}: {outcome:?}"));
+        }
+    }
+    if figure.end.is_some_and(|end| end != lent.table.words) {
+        return Err(format!("the table at the end: {:?}", lent.table.words));
+    }
+    Ok(Case {
+        start: figure.start,
+        calls: figure.calls.into_iter().map(|(call, _)| call).collect(),
+    })
+}
+
+fn key(one: i64, two: i64) -> Key {
+    Key { one, two }
+}
+
+fn insert(one: i64, two: i64, total: i64, gives: &[i64]) -> (Call, Gives) {
+    let call = Call::Insert {
+        key: key(one, two),
+        totals: [total, 0],
+    };
+    (call, Gives::Numbers(gives.to_vec()))
+}
+
+fn update(one: i64, two: i64, total: i64, gives: &[i64]) -> (Call, Gives) {
+    let call = Call::Update {
+        key: key(one, two),
+        totals: [total, 0],
+    };
+    (call, Gives::Numbers(gives.to_vec()))
+}
+
+fn delete(one: i64, two: i64, gives: &[i64]) -> (Call, Gives) {
+    let key = key(one, two);
+    (Call::Delete { key }, Gives::Numbers(gives.to_vec()))
+}
+
+fn begin(run: i64) -> (Call, Gives) {
+    (Call::Begin, Gives::Numbers(vec![0, run]))
+}
+
+fn commit(version: i64) -> (Call, Gives) {
+    (Call::Commit, Gives::Numbers(vec![0, version]))
+}
+
+fn read(session: i64, slot: u64, gives: &[i64]) -> (Call, Gives) {
+    let call = Call::ReadSlot { session, slot };
+    (call, Gives::Numbers(gives.to_vec()))
+}
+
+fn figure_4() -> Lent {
+    Lent {
+        table: Table {
+            words: FIGURE_4.concat(),
+        },
+        record: VersionRecord::new(4, 0, [0, 0]),
+    }
+}
+
+fn fresh(slots: usize) -> Lent {
+    Lent {
+        table: Table::fresh(slots),
+        record: VersionRecord::new(1, 0, [0, 0]),
+    }
+}
+
+fn reads_of_figure_4() -> Figure {
+    Figure {
+        start: figure_4(),
+        calls: vec![
+            read(3, 0, &[0, 1, 1, 19_961_014, 10_000]),
+            read(3, 1, &[0]),
+            read(3, 2, &[0, 1, 2, 19_961_014, 10_000]),
+            read(3, 3, &[0, 1, 3, 19_961_013, 8_000]),
+            read(4, 0, &[0, 1, 1, 19_961_014, 10_000]),
+            read(4, 1, &[0, 1, 1, 19_961_015, 1_500]),
+            read(4, 2, &[0, 1, 2, 19_961_014, 12_000]),
+            read(4, 3, &[0]),
+            read(2, 0, &[4]),
+            read(5, 0, &[3]),
+            begin(5),
+            read(3, 0, &[4]),
+        ],
+        end: Some(FIGURE_4.concat()),
+    }
+}
+
+fn changes_of_figure_5() -> Figure {
+    Figure {
+        start: figure_4(),
+        calls: vec![
+            begin(5),
+            insert(1, 19_961_016, 11_000, &[0, 3]),
+            insert(3, 19_961_013, 6_000, &[0, 4]),
+            update(1, 19_961_014, 10_200, &[0, 0]),
+            delete(2, 19_961_014, &[0, 2]),
+        ],
+        end: Some(FIGURE_6.concat()),
+    }
+}
+
+fn net_effects() -> Figure {
+    let end = [[3, 2, 1, 1, 7, 0, 6, 0], [3, 1, 2, 2, 9, 0, 0, 0], [0; 8]];
+    Figure {
+        start: fresh(3),
+        calls: vec![
+            begin(2),
+            insert(1, 1, 6, &[0, 0]),
+            commit(2),
+            begin(3),
+            delete(1, 1, &[0, 0]),
+            insert(1, 1, 7, &[0, 0]),
+            insert(2, 2, 8, &[0, 1]),
+            update(2, 2, 9, &[0, 1]),
+            insert(3, 3, 5, &[0, 2]),
+            delete(3, 3, &[0, 2]),
+        ],
+        end: Some(end.concat()),
+    }
+}
+
+fn one_slot() -> Figure {
+    Figure {
+        start: fresh(1),
+        calls: vec![
+            begin(2),
+            insert(1, 1, 6, &[0, 0]),
+            commit(2),
+            begin(3),
+            delete(1, 1, &[0, 0]),
+            insert(2, 2, 8, &[12]),
+            commit(3),
+            begin(4),
+            insert(2, 2, 8, &[0, 0]),
+        ],
+        end: None,
+    }
+}
+
+fn totals() -> Figure {
+    Figure {
+        start: fresh(1),
+        calls: vec![
+            begin(2),
+            insert(1, 1, LARGEST_TOTAL + 1, &[13]),
+            insert(1, 1, LARGEST_TOTAL, &[0, 0]),
+        ],
+        end: None,
+    }
+}
+
+/// The checks of the blocks of eight slots, one of them with this total two.
+fn checks(total_two: i64, check: u32) -> Figure {
+    let insert = Call::Insert {
+        key: key(1, 19_961_014),
+        totals: [10_000, total_two],
+    };
+    let save = Call::SaveBlock { number: 1 };
+    Figure {
+        start: fresh(8),
+        calls: vec![
+            (Call::SaveHeader, Gives::Check(9)),
+            (save.clone(), Gives::Check(1)),
+            begin(2),
+            (Call::SaveHeader, Gives::Numbers(vec![7])),
+            (save.clone(), Gives::Numbers(vec![7])),
+            (insert, Gives::Numbers(vec![0, 0])),
+            commit(2),
+            (save, Gives::Check(check)),
+            (
+                Call::LoadHeader {
+                    block: Block::header(8, 2).bytes(),
+                },
+                Gives::Numbers(vec![0, 8, 2]),
+            ),
+        ],
+        end: None,
+    }
+}

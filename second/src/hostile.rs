@@ -1,0 +1,176 @@
+//! Hostile cases: any table words, any record, any arguments.
+
+use crate::arguments::Arguments;
+use crate::call::{KINDS, Lent};
+use crate::case::Case;
+use crate::edges;
+use crate::model;
+use crate::random::Random;
+use crate::record::{LARGEST_VERSION, Version, VersionRecord};
+use crate::slot::{DELETE, INSERT, Key, SLOT_WORDS, Slot, UPDATE};
+use crate::table::{MOST_WORDS, Table};
+
+const ODD_ARGUMENTS: usize = 20;
+const MOST_KEYS: usize = 5;
+const MOST_SMALL_SLOTS: usize = 9;
+const MOST_CALLS: usize = 12;
+const MOST_CALLS_ON_LONG: usize = 3;
+
+const SHORT_LENGTHS: [usize; 12] = [0, 1, 4, 7, 9, 12, 15, 17, 63, 65, 71, 121];
+const LONG_LENGTHS: [usize; 9] = [
+    MOST_WORDS - 8,
+    MOST_WORDS - 1,
+    MOST_WORDS,
+    MOST_WORDS,
+    MOST_WORDS,
+    MOST_WORDS + 1,
+    MOST_WORDS + 7,
+    MOST_WORDS + 8,
+    2 * MOST_WORDS,
+];
+
+const VERSIONS: [i64; 11] = [
+    0,
+    -1,
+    1,
+    2,
+    LARGEST_VERSION - 2,
+    LARGEST_VERSION - 1,
+    LARGEST_VERSION,
+    LARGEST_VERSION + 1,
+    (1 << 32) + 1,
+    i64::MIN,
+    i64::MAX,
+];
+
+/// A case from hostile words.
+pub fn case(random: &mut Random) -> Case {
+    let record = record(random);
+    let count = 1 + random.below(MOST_KEYS);
+    let keys = edges::keys(random, count);
+    let long = random.below(400) == 0;
+    let length = table_length(random, long);
+    let start = Lent {
+        table: table(random, length, record, &keys),
+        record,
+    };
+    let arguments = Arguments {
+        keys,
+        odd: ODD_ARGUMENTS,
+    };
+    let most_calls = if long { MOST_CALLS_ON_LONG } else { MOST_CALLS };
+    let mut lent = start.clone();
+    let mut calls = Vec::new();
+    for _ in 0..=random.below(most_calls) {
+        let kind = random.pick(&KINDS);
+        let call = arguments.call(random, kind, &lent);
+        // what is lent to the next call is what this one leaves
+        let _ = model::make(&call, &mut lent);
+        calls.push(call);
+    }
+    Case { start, calls }
+}
+
+fn record(random: &mut Random) -> VersionRecord {
+    let current = match random.below(8) {
+        0 => random.pick(&VERSIONS),
+        1 => random.between(LARGEST_VERSION - 2, LARGEST_VERSION),
+        _ => random.between(1, 6),
+    };
+    let run_mark = match random.below(12) {
+        0 => edges::word(random),
+        1..=5 => 0,
+        _ => 1,
+    };
+    VersionRecord::new(
+        current,
+        run_mark,
+        [edges::word(random), edges::word(random)],
+    )
+}
+
+fn table_length(random: &mut Random, long: bool) -> usize {
+    if long {
+        random.pick(&LONG_LENGTHS)
+    } else if random.percent(7) {
+        random.pick(&SHORT_LENGTHS)
+    } else {
+        SLOT_WORDS * (1 + random.below(MOST_SMALL_SLOTS))
+    }
+}
+
+/// A table of any length. Most have at most one slot that is not well formed.
+fn table(random: &mut Random, length: usize, record: VersionRecord, keys: &[Key]) -> Table {
+    let version = Version {
+        current: record.words[0],
+        run_active: record.words[1] == 1,
+    };
+    let all_hostile = random.percent(20);
+    let mut words = Vec::new();
+    while words.len() < length {
+        let slot = if all_hostile {
+            slot(random, version, keys)
+        } else {
+            well_formed_slot(random, version, keys)
+        };
+        words.extend(slot.words());
+    }
+    if random.percent(40) && length >= SLOT_WORDS {
+        let place = random.below(length / SLOT_WORDS) * SLOT_WORDS;
+        words[place..][..SLOT_WORDS].copy_from_slice(&slot(random, version, keys).words());
+    }
+    words.truncate(length);
+    Table { words }
+}
+
+/// A slot that is well formed, if any is at the version.
+pub fn well_formed_slot(random: &mut Random, version: Version, keys: &[Key]) -> Slot {
+    if random.percent(25) {
+        return Slot::zeros();
+    }
+    let newest = version
+        .current
+        .saturating_add(i64::from(version.run_active));
+    let newest = newest.clamp(1, LARGEST_VERSION);
+    let run = match random.below(4) {
+        0 => random.between(1, newest),
+        1 => 1.max(newest - 1),
+        _ => newest,
+    };
+    let operation = random.between(INSERT, DELETE);
+    let old = if operation == INSERT {
+        [0, 0]
+    } else {
+        edges::totals(random)
+    };
+    Slot {
+        run,
+        operation,
+        key: random.pick(keys),
+        current: edges::totals(random),
+        old,
+    }
+}
+
+/// A slot that most often is just not well formed.
+pub fn slot(random: &mut Random, version: Version, keys: &[Key]) -> Slot {
+    let mut slot = match random.below(8) {
+        0 => Slot::zeros(),
+        1 => any_slot(random),
+        _ => well_formed_slot(random, version, keys),
+    };
+    match random.below(6) {
+        0 => slot.run = edges::word_near(random, version.current),
+        1 => slot.operation = edges::word_near(random, UPDATE),
+        2 => slot.current = edges::unlawful_totals(random),
+        3 => slot.old = edges::unlawful_totals(random),
+        4 => slot.old = edges::totals(random),
+        _ => slot.key.one = edges::word(random),
+    }
+    slot
+}
+
+fn any_slot(random: &mut Random) -> Slot {
+    let words: [i64; SLOT_WORDS] = std::array::from_fn(|_| edges::word(random));
+    Slot::from_words(&words)
+}

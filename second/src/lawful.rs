@@ -1,0 +1,223 @@
+//! Lawful histories: runs, sessions and saves from a fresh table and a fresh
+//! record, and tables brought from one record to another by their blocks.
+
+use crate::arguments::Arguments;
+use crate::block;
+use crate::call::{Answer, Call, KINDS, Kind, Lent};
+use crate::case::Case;
+use crate::edges;
+use crate::model;
+use crate::random::Random;
+use crate::record::VersionRecord;
+use crate::table::{MOST_SLOTS, Table};
+
+const ODD_ARGUMENTS: usize = 3;
+const MOST_SMALL_SLOTS: usize = 16;
+const MOST_MIDDLE_SLOTS: usize = 64;
+const MOST_CALLS: usize = 160;
+const MOST_CALLS_ON_LARGE: usize = 20;
+
+#[derive(Clone, Copy)]
+enum Next {
+    Call(Kind),
+    /// a session begins to read each slot once
+    Scan,
+    Save,
+    /// loads what was saved last
+    Load,
+    AnyKind,
+}
+
+const IN_A_RUN: [(usize, Next); 10] = [
+    (24, Next::Call(Kind::Insert)),
+    (16, Next::Call(Kind::Update)),
+    (17, Next::Call(Kind::Delete)),
+    (8, Next::Call(Kind::ReadKey)),
+    (4, Next::Call(Kind::ReadSlot)),
+    (6, Next::Call(Kind::RollUp)),
+    (7, Next::Call(Kind::Commit)),
+    (1, Next::Call(Kind::Open)),
+    (4, Next::Scan),
+    (3, Next::AnyKind),
+];
+
+const BETWEEN_RUNS: [(usize, Next); 9] = [
+    (25, Next::Call(Kind::Begin)),
+    (8, Next::Call(Kind::ReadKey)),
+    (4, Next::Call(Kind::ReadSlot)),
+    (6, Next::Call(Kind::RollUp)),
+    (1, Next::Call(Kind::Open)),
+    (6, Next::Scan),
+    (3, Next::Save),
+    (3, Next::Load),
+    (3, Next::AnyKind),
+];
+
+/// A history as it grows.
+struct History {
+    lent: Lent,
+    arguments: Arguments,
+    calls: Vec<Call>,
+    /// the reads that are left of a session's scan
+    scan: Vec<Call>,
+    /// the loads that bring back what was saved last
+    saved: Vec<Call>,
+    may_load: bool,
+}
+
+/// A history from a fresh table and a fresh record.
+pub fn case(random: &mut Random) -> Case {
+    let slots = slot_count(random);
+    let start = Lent {
+        table: Table::fresh(slots),
+        record: VersionRecord::new(1, 0, [edges::word(random), edges::word(random)]),
+    };
+    let most_calls = if slots > MOST_MIDDLE_SLOTS {
+        MOST_CALLS_ON_LARGE
+    } else {
+        MOST_CALLS
+    };
+    let mut history = History::new(random, &start);
+    history.grow(random, most_calls);
+    Case {
+        start,
+        calls: history.calls,
+    }
+}
+
+/// A case that loads the blocks of a table into another of that size, at that
+/// version, and goes on from there. The model must give the same words.
+pub fn reloaded_case(random: &mut Random) -> Case {
+    let slots = 1 + random.below(MOST_SMALL_SLOTS);
+    let fresh = Lent {
+        table: Table::fresh(slots),
+        record: VersionRecord::new(1, 0, [0, 0]),
+    };
+    let mut source = History::new(random, &fresh);
+    source.grow(random, MOST_CALLS);
+    source.push(Call::Commit);
+    source.save();
+    let words = source.lent.table.words.iter();
+    let start = Lent {
+        table: Table {
+            words: words.map(|_| edges::word(random)).collect(),
+        },
+        record: source.lent.record,
+    };
+    let mut history = History::new(random, &start);
+    history.arguments.keys = source.arguments.keys;
+    source.saved.into_iter().for_each(|load| history.push(load));
+    assert_eq!(history.lent, source.lent, "a saved table, loaded");
+    history.grow(random, MOST_CALLS_ON_LARGE);
+    Case {
+        start,
+        calls: history.calls,
+    }
+}
+
+fn slot_count(random: &mut Random) -> usize {
+    match random.below(1000) {
+        0..=4 => 1 + random.below(MOST_SLOTS),
+        5..=49 => 1 + random.below(MOST_MIDDLE_SLOTS),
+        50..=499 => 1 + random.below(MOST_SMALL_SLOTS),
+        _ => 1 + random.below(4),
+    }
+}
+
+impl History {
+    fn new(random: &mut Random, start: &Lent) -> History {
+        let slots = start.table.slots().unwrap_or(1);
+        let count = 1 + random.below(slots.min(MOST_MIDDLE_SLOTS) + 4);
+        History {
+            lent: start.clone(),
+            arguments: Arguments {
+                keys: edges::keys(random, count),
+                odd: ODD_ARGUMENTS,
+            },
+            calls: Vec::new(),
+            scan: Vec::new(),
+            saved: Vec::new(),
+            may_load: random.percent(30),
+        }
+    }
+
+    /// Makes the call.
+    fn push(&mut self, call: Call) {
+        // a refused call is part of a history too
+        let _ = model::make(&call, &mut self.lent);
+        self.calls.push(call);
+    }
+
+    fn grow(&mut self, random: &mut Random, most_calls: usize) {
+        let length = self.calls.len() + 1 + random.below(most_calls);
+        while self.calls.len() < length {
+            if random.percent(40)
+                && let Some(read) = self.scan.pop()
+            {
+                self.push(read);
+                continue;
+            }
+            let run_active = self.lent.record.words[1] == 1;
+            let next = if run_active {
+                random.weighted(&IN_A_RUN)
+            } else {
+                random.weighted(&BETWEEN_RUNS)
+            };
+            self.step(random, next);
+        }
+    }
+
+    fn step(&mut self, random: &mut Random, next: Next) {
+        match next {
+            Next::Call(kind) => self.push_kind(random, kind),
+            Next::AnyKind => {
+                let kind = random.pick(&KINDS);
+                self.push_kind(random, kind);
+            }
+            Next::Scan => self.begin_scan(random),
+            Next::Save => self.save(),
+            Next::Load if self.may_load => {
+                self.saved
+                    .clone()
+                    .into_iter()
+                    .for_each(|load| self.push(load));
+            }
+            Next::Load => {}
+        }
+    }
+
+    fn push_kind(&mut self, random: &mut Random, kind: Kind) {
+        let call = self.arguments.call(random, kind, &self.lent);
+        let run_active = self.lent.record.words[1] == 1;
+        if kind != Kind::LoadBlock || self.may_load || run_active {
+            self.push(call);
+        }
+    }
+
+    /// Opens a session that is to read each slot once, in any order.
+    fn begin_scan(&mut self, random: &mut Random) {
+        let slots = self.lent.table.slots().unwrap_or(0) as u64;
+        let session = self.lent.record.words[0] - i64::from(random.percent(30));
+        self.scan = (0..slots)
+            .map(|slot| Call::ReadSlot { session, slot })
+            .collect();
+        random.shuffle(&mut self.scan);
+        self.push(Call::Open);
+    }
+
+    /// Saves the header and every block, and keeps the loads for later.
+    fn save(&mut self) {
+        self.push(Call::SaveHeader);
+        self.saved.clear();
+        let last = block::last_number(self.lent.table.slots().unwrap_or(0)) as u64;
+        for number in 1..=last {
+            let save = Call::SaveBlock { number };
+            let saved = model::make(&save, &mut self.lent);
+            if let Ok(Answer::Saved(block)) = saved {
+                let block = block.bytes();
+                self.saved.push(Call::LoadBlock { number, block });
+            }
+            self.calls.push(save);
+        }
+    }
+}

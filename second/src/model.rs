@@ -1,0 +1,215 @@
+//! What each call answers and writes.
+
+use crate::block::{self, Block};
+use crate::call::{Answer, Call, Lent};
+use crate::record::Version;
+use crate::refusal::Refusal;
+use crate::slot::{Key, Slot, Totals, is_lawful};
+
+type Outcome = Result<Answer, Refusal>;
+
+/// Makes the call. A refusal leaves what is lent as it was.
+pub fn make(call: &Call, lent: &mut Lent) -> Outcome {
+    match call {
+        Call::Open => Ok(Answer::Version(lent.record.version()?.current)),
+        Call::Begin => begin(lent),
+        Call::Commit => commit(lent),
+        Call::ReadSlot { session, slot } => read_slot(lent, *session, *slot),
+        Call::ReadKey { session, key } => read_key(lent, *session, *key),
+        Call::RollUp { session, one } => roll_up(lent, *session, *one),
+        Call::Insert { key, totals } => insert(lent, *key, *totals),
+        Call::Update { key, totals } => update(lent, *key, *totals),
+        Call::Delete { key } => delete(lent, *key),
+        Call::SaveHeader => save_header(lent),
+        Call::SaveBlock { number } => save_block(lent, *number),
+        Call::LoadHeader { block } => load_header(block),
+        Call::LoadBlock { number, block } => load_block(lent, *number, block),
+    }
+}
+
+fn begin(lent: &mut Lent) -> Outcome {
+    let version = lent.record.version()?;
+    if version.run_active {
+        return Err(Refusal::RunActive);
+    }
+    if version.current == crate::record::LARGEST_VERSION {
+        return Err(Refusal::LargestVersion);
+    }
+    lent.record.set(Version {
+        run_active: true,
+        ..version
+    });
+    Ok(Answer::Version(version.run()))
+}
+
+fn commit(lent: &mut Lent) -> Outcome {
+    let version = lent.record.version()?;
+    if !version.run_active {
+        return Err(Refusal::NoRunActive);
+    }
+    lent.record.set(Version {
+        current: version.run(),
+        run_active: false,
+    });
+    Ok(Answer::Version(version.run()))
+}
+
+/// Refusals 1 to 4, which every read tests first.
+fn admit(lent: &Lent, session: i64) -> Result<Version, Refusal> {
+    lent.table.slots()?;
+    let version = lent.record.version()?;
+    version.admit(session)?;
+    Ok(version)
+}
+
+fn read_slot(lent: &Lent, session: i64, slot: u64) -> Outcome {
+    let version = admit(lent, session)?;
+    let slots = lent.table.slots()?;
+    if slot >= slots as u64 {
+        return Err(Refusal::NoSuchPlace);
+    }
+    let slot = lent.table.well_formed_slot(slot as usize, version)?;
+    Ok(Answer::Row(slot.seen_by(session)))
+}
+
+fn read_key(lent: &Lent, session: i64, key: Key) -> Outcome {
+    let version = admit(lent, session)?;
+    let Some(place) = lent.table.keys_slot(key) else {
+        return Ok(Answer::Row(None));
+    };
+    let slot = lent.table.well_formed_slot(place, version)?;
+    Ok(Answer::Row(slot.seen_by(session)))
+}
+
+fn roll_up(lent: &Lent, session: i64, one: i64) -> Outcome {
+    let version = admit(lent, session)?;
+    if !lent
+        .table
+        .all_slots()
+        .all(|slot| slot.is_well_formed(version))
+    {
+        return Err(Refusal::NotWellFormed);
+    }
+    let mut count = 0;
+    let mut sums = [0, 0];
+    let seen = lent
+        .table
+        .all_slots()
+        .filter_map(|slot| slot.seen_by(session));
+    for row in seen.filter(|row| row.key.one == one) {
+        count += 1;
+        sums[0] += row.totals[0];
+        sums[1] += row.totals[1];
+    }
+    Ok(Answer::RollUp { count, sums })
+}
+
+/// Refusals 1, 2 and 8, which every change tests first.
+fn running(lent: &Lent) -> Result<Version, Refusal> {
+    lent.table.slots()?;
+    let version = lent.record.version()?;
+    if !version.run_active {
+        return Err(Refusal::NoRunActive);
+    }
+    Ok(version)
+}
+
+fn lawful(totals: Totals) -> Result<(), Refusal> {
+    if is_lawful(totals) {
+        Ok(())
+    } else {
+        Err(Refusal::TotalOutOfRange)
+    }
+}
+
+fn insert(lent: &mut Lent, key: Key, totals: Totals) -> Outcome {
+    let version = running(lent)?;
+    lawful(totals)?;
+    let (place, slot) = match lent.table.keys_slot(key) {
+        Some(place) => {
+            let slot = lent.table.well_formed_slot(place, version)?;
+            (place, slot.inserted(version.run(), totals)?)
+        }
+        None => {
+            let place = lent.table.slot_to_take(version)?;
+            (place, Slot::new_insert(version.run(), key, totals))
+        }
+    };
+    lent.table.write(place, &slot);
+    Ok(Answer::Slot(place))
+}
+
+/// Alters the key's slot, which must be there.
+fn alter(
+    lent: &mut Lent,
+    key: Key,
+    version: Version,
+    altered: impl Fn(Slot) -> Result<Slot, Refusal>,
+) -> Outcome {
+    let place = lent.table.keys_slot(key).ok_or(Refusal::KeyNotLive)?;
+    let slot = lent.table.well_formed_slot(place, version)?;
+    lent.table.write(place, &altered(slot)?);
+    Ok(Answer::Slot(place))
+}
+
+fn update(lent: &mut Lent, key: Key, totals: Totals) -> Outcome {
+    let version = running(lent)?;
+    lawful(totals)?;
+    alter(lent, key, version, |slot| {
+        slot.updated(version.run(), totals)
+    })
+}
+
+fn delete(lent: &mut Lent, key: Key) -> Outcome {
+    let version = running(lent)?;
+    alter(lent, key, version, |slot| slot.deleted(version.run()))
+}
+
+/// Refusals 1, 2 and 7, which every save and the load of slots test first.
+fn between_runs(lent: &Lent) -> Result<Version, Refusal> {
+    lent.table.slots()?;
+    let version = lent.record.version()?;
+    if version.run_active {
+        return Err(Refusal::RunActive);
+    }
+    Ok(version)
+}
+
+/// The number of a block that the table has, or refusal 5.
+fn block_number(lent: &Lent, number: u64) -> Result<usize, Refusal> {
+    let last = block::last_number(lent.table.slots()?) as u64;
+    if (1..=last).contains(&number) {
+        Ok(number as usize)
+    } else {
+        Err(Refusal::NoSuchPlace)
+    }
+}
+
+fn save_header(lent: &Lent) -> Outcome {
+    let version = between_runs(lent)?;
+    let block = Block::header(lent.table.slots()?, version.current);
+    Ok(Answer::Saved(Box::new(block)))
+}
+
+fn save_block(lent: &Lent, number: u64) -> Outcome {
+    let version = between_runs(lent)?;
+    let number = block_number(lent, number)?;
+    let block = Block::save(&lent.table, number, version)?;
+    Ok(Answer::Saved(Box::new(block)))
+}
+
+fn load_header(bytes: &[u8]) -> Outcome {
+    let (slots, current) = Block::from_bytes(bytes)?.read_header()?;
+    Ok(Answer::Header { slots, current })
+}
+
+fn load_block(lent: &mut Lent, number: u64, bytes: &[u8]) -> Outcome {
+    let version = between_runs(lent)?;
+    let number = block_number(lent, number)?;
+    let slots = lent.table.slots()?;
+    let read = Block::from_bytes(bytes)?.read_slots(number, slots, version)?;
+    for (place, slot) in block::places(number, slots).zip(&read) {
+        lent.table.write(place, slot);
+    }
+    Ok(Answer::Loaded)
+}
