@@ -30,6 +30,10 @@ pub record Opened (v : Version) (r : Numbered) : Type 0 where
 abbrev pub keptAs : Version → ℕ → Turned
 keptAs v n = record { answer = Refused n; version = v }
 
+-- an answer, and the record that is left with it
+abbrev pub leaving : Numbered → Version → Turned
+leaving r v = record { answer = r; version = v }
+
 -- ---- begin: 2, 7, 9
 abbrev pub beginTests : Version → List (Bool × ℕ)
 beginTests v =

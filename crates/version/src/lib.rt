@@ -1,11 +1,11 @@
-// The version record: the current version and whether a run is active; open, begin and commit of it by value. Its tests
-// (refusals 2, 3 and 4) and its numbers are leaves for our other crates. Each test is one expression of & and |, with no
-// branch, and so has one return to prove.
+// The version record: the current version and whether a run is active; open, begin and commit of it by value, and begin and
+// commit on a record that is lent. Its tests (refusals 2, 3 and 4) and its numbers are leaves for our other crates. Each test
+// is one expression of & and |, with no branch, and so has one return to prove.
 ghost use mathlib.Core.Path.{_≡_};
 ghost use mathlib.Core.Bool.{false};
 ghost use Rattle.version.specs.Record.{freshRecord, badRecord, runNumber, lastRun};
 ghost use Rattle.version.specs.Sessions.{unborn, expired};
-ghost use Rattle.version.specs.Runs.{Opened, keptAs, Begun, Committed};
+ghost use Rattle.version.specs.Runs.{Opened, keptAs, leaving, Begun, Committed};
 
 pub struct Version {
     pub current: i64,
@@ -147,4 +147,22 @@ pub fn committed(version: Version) -> Turned
             active: false,
         },
     }
+}
+
+// Begin on a lent record, altered where it stands: the answer and the record at exit are those of `begun`.
+pub fn begin(version: &mut Version) -> Numbered
+    ensures { λ r. ⌜ Begun (now (version .entry)) (leaving r (now (version .exit))) ⌝ }
+{
+    let turned = begun(*version);
+    *version = turned.version;
+    turned.answer
+}
+
+// Commit on a lent record, altered where it stands: the answer and the record at exit are those of `committed`.
+pub fn commit(version: &mut Version) -> Numbered
+    ensures { λ r. ⌜ Committed (now (version .entry)) (leaving r (now (version .exit))) ⌝ }
+{
+    let turned = committed(*version);
+    *version = turned.version;
+    turned.answer
 }

@@ -1,0 +1,59 @@
+// The face of the library: its calls, their answers, its types and its constants, and nothing else. A host names this crate and
+// no other of ours; what the other crates have beside these are leaves for our own use.
+
+// The version record, with its largest version `Version::LARGEST` and the fresh record `Version::fresh`.
+pub use version::Version;
+// What open, begin and commit answer: the number of a version, or a refusal.
+pub use version::Numbered;
+// What a slot or a key read answers: a row, no row, or a refusal.
+pub use reads::Seen;
+// What a roll-up answers: the count and both sums, or a refusal.
+pub use reads::Rolled;
+// What a change answers: the number of its slot, or a refusal.
+pub use changes::Placed;
+// What a save hands out: 0 or the refusal, and the block.
+pub use blocks::Saved;
+// What load header answers: slots and current, or a refusal.
+pub use blocks::Header;
+// What load block answers: that it is done, or a refusal.
+pub use blocks::Loaded;
+
+// Open: the current version.
+pub use version::open;
+// Begin a run, on a lent record: the run's number.
+pub use version::begin;
+// Commit it, on a lent record: the new current version.
+pub use version::commit;
+// Begin and commit with the record handed over and back by value, and what they leave: the answer and the record.
+pub use version::Turned;
+pub use version::begun;
+pub use version::committed;
+// Read a slot, at a session's version.
+pub use reads::read_slot;
+// Read a key, at a session's version.
+pub use reads::read_key;
+// Roll up the rows with a first key word, at a session's version.
+pub use reads::roll_up;
+// Insert a row, in a run.
+pub use changes::insert;
+// Update a row's totals, in a run.
+pub use changes::update;
+// Delete a row, in a run.
+pub use changes::delete;
+// Save block 0: slots and current.
+pub use blocks::save_header;
+// Save block k from 1: seven slots.
+pub use blocks::save_block;
+// Load block 0.
+pub use blocks::load_header;
+// Load block k from 1, into a lent table.
+pub use blocks::load_block;
+
+// The words of a slot, and the most words of a table.
+pub use table::MOST_WORDS;
+pub use table::SLOT_WORDS;
+// The range of a total.
+pub use table::HIGHEST_TOTAL;
+pub use table::LOWEST_TOTAL;
+// The bytes of a block.
+pub use blocks::BLOCK_BYTES;
