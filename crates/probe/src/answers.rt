@@ -5,12 +5,12 @@ ghost use lib.IntN.{pos};
 ghost use Rattle.calls.specs.Numbers.{ofNumbered, ofSeen, ofRolled, ofPlaced, ofHeader, ofLoaded};
 ghost use Rattle.changes.specs.Places.{Numbers};
 ghost use Rattle.probe.specs.Probed.{padded};
-use blocks::Header;
-use blocks::Loaded;
-use changes::Placed;
-use reads::Rolled;
-use reads::Seen;
-use version::Numbered;
+use reader::Header;
+use reader::Loaded;
+use reader::Numbered;
+use reader::Placed;
+use reader::Rolled;
+use reader::Seen;
 
 // The mark of a row.
 const ROW: i64 = 1;

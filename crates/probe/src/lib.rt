@@ -14,7 +14,7 @@ mod records;
 pub extern "C" fn probe_open(record_words: &[i64; 4], out: &mut [i64; 8])
     ensures { λ _. ⌜ now (out .exit) ≡ outAfter openSession (lent [] (now (record_words .entry)) []) ⌝ }
 {
-    *out = answers::numbered(version::open(records::version_of(record_words)));
+    *out = answers::numbered(reader::open(records::version_of(record_words)));
 }
 
 // begin: the run's number
@@ -23,7 +23,7 @@ pub extern "C" fn probe_begin(record_words: &mut [i64; 4], out: &mut [i64; 8])
     ensures { λ _. ⌜ now (out .exit) ≡ outAfter begin (lent [] (now (record_words .entry)) []) ⌝ }
     ensures { λ _. ⌜ now (record_words .exit) ≡ recordAfter begin (now (record_words .entry)) (lent [] (now (record_words .entry)) []) ⌝ }
 {
-    let turned = version::begun(records::version_of(record_words));
+    let turned = reader::begun(records::version_of(record_words));
     let answer = turned.answer;
     records::keep(record_words, turned.version);
     *out = answers::numbered(answer);
@@ -35,7 +35,7 @@ pub extern "C" fn probe_commit(record_words: &mut [i64; 4], out: &mut [i64; 8])
     ensures { λ _. ⌜ now (out .exit) ≡ outAfter commit (lent [] (now (record_words .entry)) []) ⌝ }
     ensures { λ _. ⌜ now (record_words .exit) ≡ recordAfter commit (now (record_words .entry)) (lent [] (now (record_words .entry)) []) ⌝ }
 {
-    let turned = version::committed(records::version_of(record_words));
+    let turned = reader::committed(records::version_of(record_words));
     let answer = turned.answer;
     records::keep(record_words, turned.version);
     *out = answers::numbered(answer);
@@ -52,7 +52,12 @@ pub extern "C" fn probe_read_slot(
 )
     ensures { λ _. ⌜ now (out .exit) ≡ outAfter (readSlot session slot) (lent (now (table .entry)) (now (record_words .entry)) []) ⌝ }
 {
-    *out = answers::seen(reads::read_slot(table, records::version_of(record_words), session, slot));
+    *out = answers::seen(reader::read_slot(
+        table,
+        records::version_of(record_words),
+        session,
+        slot,
+    ));
 }
 
 // read a key: mark 1 and the row, or zeros
@@ -67,7 +72,7 @@ pub extern "C" fn probe_read_key(
 )
     ensures { λ _. ⌜ now (out .exit) ≡ outAfter (readKey session one two) (lent (now (table .entry)) (now (record_words .entry)) []) ⌝ }
 {
-    *out = answers::seen(reads::read_key(
+    *out = answers::seen(reader::read_key(
         table,
         records::version_of(record_words),
         session,
@@ -87,7 +92,7 @@ pub extern "C" fn probe_roll_up(
 )
     ensures { λ _. ⌜ now (out .exit) ≡ outAfter (rollUp session one) (lent (now (table .entry)) (now (record_words .entry)) []) ⌝ }
 {
-    *out = answers::rolled(reads::roll_up(table, records::version_of(record_words), session, one));
+    *out = answers::rolled(reader::roll_up(table, records::version_of(record_words), session, one));
 }
 
 // insert: the slot
@@ -104,7 +109,7 @@ pub extern "C" fn probe_insert(
     ensures { λ _. ⌜ now (out .exit) ≡ outAfter (insert one two first second) (lent (now (table .entry)) (now (record_words .entry)) []) ⌝ }
     ensures { λ _. ⌜ now (table .exit) ≡ tableAfter (insert one two first second) (lent (now (table .entry)) (now (record_words .entry)) []) ⌝ }
 {
-    *out = answers::placed(changes::insert(
+    *out = answers::placed(reader::insert(
         table,
         records::version_of(record_words),
         one,
@@ -128,7 +133,7 @@ pub extern "C" fn probe_update(
     ensures { λ _. ⌜ now (out .exit) ≡ outAfter (update one two first second) (lent (now (table .entry)) (now (record_words .entry)) []) ⌝ }
     ensures { λ _. ⌜ now (table .exit) ≡ tableAfter (update one two first second) (lent (now (table .entry)) (now (record_words .entry)) []) ⌝ }
 {
-    *out = answers::placed(changes::update(
+    *out = answers::placed(reader::update(
         table,
         records::version_of(record_words),
         one,
@@ -150,7 +155,7 @@ pub extern "C" fn probe_delete(
     ensures { λ _. ⌜ now (out .exit) ≡ outAfter (delete one two) (lent (now (table .entry)) (now (record_words .entry)) []) ⌝ }
     ensures { λ _. ⌜ now (table .exit) ≡ tableAfter (delete one two) (lent (now (table .entry)) (now (record_words .entry)) []) ⌝ }
 {
-    *out = answers::placed(changes::delete(table, records::version_of(record_words), one, two));
+    *out = answers::placed(reader::delete(table, records::version_of(record_words), one, two));
 }
 
 // save header: block 0
@@ -164,7 +169,7 @@ pub extern "C" fn probe_save_header(
     ensures { λ _. ⌜ now (out .exit) ≡ outAfter saveHeader (lent (now (table .entry)) (now (record_words .entry)) (now (block .entry))) ⌝ }
     ensures { λ _. ⌜ now (block .exit) ≡ blockAfter saveHeader (lent (now (table .entry)) (now (record_words .entry)) (now (block .entry))) ⌝ }
 {
-    let saved = blocks::save_header(table, records::version_of(record_words));
+    let saved = reader::save_header(table, records::version_of(record_words));
     let bytes = saved.block;
     *block = bytes;
     *out = answers::refusal(saved.refusal);
@@ -182,7 +187,7 @@ pub extern "C" fn probe_save_block(
     ensures { λ _. ⌜ now (out .exit) ≡ outAfter (saveBlock number) (lent (now (table .entry)) (now (record_words .entry)) (now (block .entry))) ⌝ }
     ensures { λ _. ⌜ now (block .exit) ≡ blockAfter (saveBlock number) (lent (now (table .entry)) (now (record_words .entry)) (now (block .entry))) ⌝ }
 {
-    let saved = blocks::save_block(table, records::version_of(record_words), number);
+    let saved = reader::save_block(table, records::version_of(record_words), number);
     let bytes = saved.block;
     *block = bytes;
     *out = answers::refusal(saved.refusal);
@@ -193,7 +198,7 @@ pub extern "C" fn probe_save_block(
 pub extern "C" fn probe_load_header(block: &[u8], out: &mut [i64; 8])
     ensures { λ _. ⌜ now (out .exit) ≡ outAfter (loadHeader (now (block .entry))) (lent [] [] []) ⌝ }
 {
-    *out = answers::header(blocks::load_header(block));
+    *out = answers::header(reader::load_header(block));
 }
 
 // load block: its slots
@@ -208,7 +213,7 @@ pub extern "C" fn probe_load_block(
     ensures { λ _. ⌜ now (out .exit) ≡ outAfter (loadBlock number (now (block .entry))) (lent (now (table .entry)) (now (record_words .entry)) []) ⌝ }
     ensures { λ _. ⌜ now (table .exit) ≡ tableAfter (loadBlock number (now (block .entry))) (lent (now (table .entry)) (now (record_words .entry)) []) ⌝ }
 {
-    *out = answers::loaded(blocks::load_block(
+    *out = answers::loaded(reader::load_block(
         table,
         records::version_of(record_words),
         number,

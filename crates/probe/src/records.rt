@@ -1,7 +1,7 @@
 // The record as four words: current, the run mark, and two that stay as they are.
 ghost use mathlib.Core.Path.{_≡_};
 ghost use Rattle.probe.specs.Probed.{marked, versionOf, markOf, recordWith};
-use version::Version;
+use reader::Version;
 
 const CURRENT_PLACE: usize = 0;
 

@@ -6,13 +6,13 @@ ghost use Prim.Native.Nat.{_≤_};
 ghost use lib.ListN.{length};
 ghost use Rattle.lines.specs.Replies.{versionLine, slotLine, rowLine, badLine};
 ghost use Rattle.stepper.specs.Steps.{Replied, Answered, Sound};
-use changes::Placed;
 use libc::STDIN_FILENO;
 use libc::STDOUT_FILENO;
 use lines::Command;
-use reads::Seen;
-use version::Turned;
-use version::Version;
+use reader::Placed;
+use reader::Seen;
+use reader::Turned;
+use reader::Version;
 
 // 8 slots of 8 words.
 const TABLE_WORDS: usize = 64;
@@ -75,15 +75,15 @@ fn answer(table: &mut [i64], version: Version, line: &[u8], buffer: &mut [u8], p
     ensures { λ r. ⌜ Answered (now (table .entry)) version (now (line .entry)) (now (buffer .entry)) place r (now (table .exit)) (now (buffer .exit)) ⌝ }
 {
     match lines::read_command(line) {
-        Command::Begin => reply_turned(version::begun(version), buffer, place),
-        Command::Commit => reply_turned(version::committed(version), buffer, place),
+        Command::Begin => reply_turned(reader::begun(version), buffer, place),
+        Command::Commit => reply_turned(reader::committed(version), buffer, place),
         Command::Insert {
             one,
             two,
             first,
             second,
         } => {
-            let placed = changes::insert(table, version, one, two, first, second);
+            let placed = reader::insert(table, version, one, two, first, second);
             reply_placed(placed, version, buffer, place)
         }
         Command::Update {
@@ -92,15 +92,15 @@ fn answer(table: &mut [i64], version: Version, line: &[u8], buffer: &mut [u8], p
             first,
             second,
         } => {
-            let placed = changes::update(table, version, one, two, first, second);
+            let placed = reader::update(table, version, one, two, first, second);
             reply_placed(placed, version, buffer, place)
         }
         Command::Delete { one, two } => {
-            let placed = changes::delete(table, version, one, two);
+            let placed = reader::delete(table, version, one, two);
             reply_placed(placed, version, buffer, place)
         }
         Command::Read { session, one, two } => {
-            let seen = reads::read_key(table, version, session, one, two);
+            let seen = reader::read_key(table, version, session, one, two);
             reply_seen(seen, version, buffer, place)
         }
         Command::Bad => reply_bad(version, buffer, place),
