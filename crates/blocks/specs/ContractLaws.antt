@@ -5,14 +5,16 @@ use Prim.Native.Nat.{ℕ}
 use lib.IntN.{ℤ}
 use Rattle.laws.specs.First.{unless, unless-refused, unless-done}
 use Rattle.version.specs.declared.Version.{Version}
+use Rattle.words.specs.Words.{blockOf, zeroBlock}
+use Rattle.words.specs.Longs.{blockSlots}
+use Rattle.loads.specs.Slots.{loadedTo}
 use Rattle.blocks.specs.declared.Saved.{Saved}
 use Rattle.blocks.specs.declared.Header.{Header}
 use Rattle.blocks.specs.declared.Loaded.the-variants.{Done}
 use Rattle.blocks.specs.declared.Header.the-variants as header
 use Rattle.blocks.specs.declared.Loaded.the-variants as loaded
-use Rattle.blocks.specs.Words.{blockOf, zeroBlock}
 use Rattle.blocks.specs.Headers.{headerWords, headerOf}
-use Rattle.blocks.specs.Slots.{blockSlots, slotBlockWords, loadedTo}
+use Rattle.blocks.specs.Slots.{slotBlockWords}
 use Rattle.blocks.specs.SaveHeader.{saveHeaderRefusal, saveHeaderBlock, HeaderSaved}
 use Rattle.blocks.specs.SaveBlock.{saveBlockRefusal, saveBlockBlock, BlockSaved}
 use Rattle.blocks.specs.LoadHeader.{loadHeaderRefusal, loadHeaderAnswer, HeaderLoaded}

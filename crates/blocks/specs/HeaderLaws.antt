@@ -10,7 +10,7 @@ use lib.IntN.{ℤ, pos, negsuc, natAbs}
 use lib.Signed.{leZ, nonNeg}
 use lib.ListN.{getD, replicate}
 use borrow.Author.Tests.{leb-true, le-leb}
-use Rattle.laws.specs.Tests.{any, clash}
+use Rattle.laws.specs.Tests.{clash}
 use Rattle.laws.specs.First.{none}
 use Rattle.laws.specs.Order.{fromTo}
 use Rattle.laws.specs.Digits.{EachBelow}
@@ -19,11 +19,13 @@ use Rattle.version.specs.Record.{largestVersion, badRecord}
 use Rattle.version.specs.RecordLaws.{sound}
 use Rattle.table.specs.Slots.{badTable, slots}
 use Rattle.table.specs.SlotLaws.{lengths}
+use Rattle.words.specs.Words.{checkPlace, wordBase, blockOf, wordAt}
+use Rattle.words.specs.Groups.{zeros-below}
+use Rattle.words.specs.WordLaws.{BlockWords, block-word, filler-zero}
+use Rattle.loads.specs.Headers.{headerWrong}
+use Rattle.loads.specs.AllowedLaws.{header-allowed}
 use Rattle.blocks.specs.declared.Header.the-variants.{Of}
-use Rattle.blocks.specs.Words.{checkPlace, wordBase, blockOf, wordAt}
-use Rattle.blocks.specs.Groups.{zeros-below}
-use Rattle.blocks.specs.WordLaws.{BlockWords, block-word, filler-zero}
-use Rattle.blocks.specs.Headers.{headerWords, headerWrong, headerOf}
+use Rattle.blocks.specs.Headers.{headerWords, headerOf}
 use Rattle.blocks.specs.SaveHeader.{saveHeaderRefusal, saveHeaderBlock}
 
 -- a lawful version is a number of its own size
@@ -75,18 +77,13 @@ module _ (t : List ℤ) (v : Version) (allowed : saveHeaderRefusal t v ≡ 0) wh
 
   -- none of them is wrong
   pub header-right : headerWrong (blockOf (headerWords t v)) ≡ false
-  unfolding headerWrong headerWords any
+  unfolding headerWords
   header-right =
       let few = lengths t table-sound in
-      rw (
-        header-at 0 (omega arith),
-        header-at 1 (omega arith),
-        header-at 2 (omega arith),
-        current .lawful,
-        le-leb 1 (slots t) (few .some),
-        le-leb (slots t) 1024 (few .few),
-        filler-zero _ header-words (0 ∷ slots t ∷ natAbs (v .current) ∷ []) 124 refl,
-      )
+      header-allowed _ (header-at 0 (omega arith))
+      (rw (header-at 1 (omega arith), le-leb 1 (slots t) (few .some), le-leb (slots t) 1024 (few .few)))
+      (rw (header-at 2 (omega arith)) (current .lawful))
+      (filler-zero _ header-words (0 ∷ slots t ∷ natAbs (v .current) ∷ []) 124 refl)
 
   -- and they are the slots of the table and the current version
   pub header-read : headerOf (blockOf (headerWords t v)) ≡ Of (slots t) (v .current)

@@ -9,10 +9,12 @@ use Rattle.laws.specs.First.{first, unless}
 use Rattle.version.specs.declared.Version.{Version}
 use Rattle.version.specs.Record.{badRecord}
 use Rattle.table.specs.Slots.{badTable}
+use Rattle.words.specs.Words.{notBlock, checkWrong}
+use Rattle.words.specs.Longs.{blockSlots}
+use Rattle.loads.specs.Slots.{slotBlockWrong, loadedTo}
 use Rattle.blocks.specs.declared.Loaded.{Loaded}
 use Rattle.blocks.specs.declared.Loaded.the-variants.{Done, Refused}
-use Rattle.blocks.specs.Words.{notBlock, checkWrong}
-use Rattle.blocks.specs.Slots.{blockSlots, noSuchBlock, slotBlockWrong, loadedTo}
+use Rattle.blocks.specs.Slots.{noSuchBlock}
 
 -- Load block: 1, 2, 7, 5, 14, 15, 16
 abbrev pub loadBlockTests : List ℤ → Version → ℕ → List ℕ → List (Bool × ℕ)

@@ -4,10 +4,11 @@ use mathlib.Core.Bool.{Bool}
 use mathlib.Core.List.{List, [], _∷_}
 use Prim.Native.Nat.{ℕ}
 use Rattle.laws.specs.First.{first, unless}
+use Rattle.words.specs.Words.{notBlock, checkWrong}
+use Rattle.loads.specs.Headers.{headerWrong}
 use Rattle.blocks.specs.declared.Header.{Header}
 use Rattle.blocks.specs.declared.Header.the-variants.{Refused}
-use Rattle.blocks.specs.Words.{notBlock, checkWrong}
-use Rattle.blocks.specs.Headers.{headerWrong, headerOf}
+use Rattle.blocks.specs.Headers.{headerOf}
 
 -- Load header: 14, 15, 16
 abbrev pub loadHeaderTests : List ℕ → List (Bool × ℕ)

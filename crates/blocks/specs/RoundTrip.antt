@@ -10,23 +10,26 @@ use native.Mathlib.Omega.{arith}
 use lib.Dec.{ltb}
 use lib.IntN.{ℤ}
 use lib.ListN.{length}
-use borrow.Author.Tests.{ltb-true, ltb-false, eq-eqb}
-use Rattle.laws.specs.Tests.{any, by-test}
+use borrow.Author.Tests.{ltb-true, ltb-false}
+use Rattle.laws.specs.Tests.{by-test}
 use Rattle.laws.specs.First.{none, skip, done}
-use Rattle.laws.specs.Lowest.{none-passes, all-fail}
+use Rattle.laws.specs.Lowest.{none-passes}
 use Rattle.version.specs.declared.Version.{Version}
 use Rattle.table.specs.Slots.{badTable, slots, slotAt}
 use Rattle.table.specs.SlotLaws.{slotAt-past, same-length, by-slots}
 use Rattle.table.specs.Formed.{broken}
 use Rattle.table.specs.FormedLaws.{empty-zeros}
+use Rattle.words.specs.Words.{blockOf}
+use Rattle.words.specs.WordLaws.{block-whole, block-word, check-right, filler-zero}
+use Rattle.words.specs.Longs.{blockSlots}
+use Rattle.loads.specs.Slots.{blocks, firstSlot, slotWrong, slotBlockWrong, loadedTo}
+use Rattle.loads.specs.AllowedLaws.{slots-allowed}
+use Rattle.loads.specs.LoadedLaws.{loaded-length, loaded-other, loaded-same}
 use Rattle.blocks.specs.declared.Header.the-variants.{Of}
 use Rattle.blocks.specs.declared.Loaded.the-variants.{Done}
-use Rattle.blocks.specs.Words.{blockOf}
-use Rattle.blocks.specs.WordLaws.{block-whole, block-word, check-right, filler-zero}
 use Rattle.blocks.specs.HeaderLaws.{header-saved, header-words, header-right, header-read}
-use Rattle.blocks.specs.Slots.{blockSlots, blocks, firstSlot, blockBroken, slotsFrom, slotBlockWords, slotWrong, slotBlockWrong, loadedTo}
+use Rattle.blocks.specs.Slots.{blockBroken, slotsFrom, slotBlockWords}
 use Rattle.blocks.specs.SlotBlockLaws.{Fitting, table-sound, slots-saved, slot-words, slot-back}
-use Rattle.blocks.specs.LoadedLaws.{loaded-length, loaded-other, loaded-same}
 use Rattle.blocks.specs.SaveHeader.{saveHeaderRefusal, saveHeaderBlock}
 use Rattle.blocks.specs.SaveBlock.{saveBlockRefusal, saveBlockBlock}
 use Rattle.blocks.specs.LoadHeader.{loadHeaderRefusal, loadHeaderAnswer}
@@ -74,15 +77,10 @@ module _ (t u : List ℤ) (v : Version) (k : ℕ) (fitting : Fitting t) (same : 
 
   -- so its words are not wrong
   slots-right : slotBlockWrong u v k (blockOf (slotBlockWords t k)) ≡ false
-  unfolding slotBlockWrong slotBlockWords any
+  unfolding slotBlockWords
   slots-right =
       let made = slot-words t v k allowed in
-      rw (
-        block-word _ made 0 (omega arith),
-        eq-eqb k k refl,
-        filler-zero _ made (k ∷ slotsFrom t (firstSlot k) blockSlots) 14 refl,
-        all-fail (slotWrong u v k (blockOf (slotBlockWords t k))) blockSlots slot-right,
-      )
+      slots-allowed u v k _ (block-word _ made 0 (omega arith)) (filler-zero _ made (k ∷ slotsFrom t (firstSlot k) blockSlots) 14 refl) slot-right
 
   -- a load of it is not refused
   pub block-loads : loadBlockRefusal u v k (saveBlockBlock t v k) ≡ 0

@@ -9,8 +9,8 @@ use Rattle.laws.specs.First.{first, unless}
 use Rattle.version.specs.declared.Version.{Version}
 use Rattle.version.specs.Record.{badRecord}
 use Rattle.table.specs.Slots.{badTable}
+use Rattle.words.specs.Words.{blockOf, zeroBlock}
 use Rattle.blocks.specs.declared.Saved.{Saved}
-use Rattle.blocks.specs.Words.{blockOf, zeroBlock}
 use Rattle.blocks.specs.Slots.{noSuchBlock, blockBroken, slotBlockWords}
 
 -- Save block: 1, 2, 7, 5, 6 (its slots)

@@ -25,13 +25,16 @@ use Rattle.laws.specs.Digits.{digits, EachBelow, digits-length, digits-below, n
 use Rattle.version.specs.declared.Version.{Version}
 use Rattle.table.specs.declared.Slot.{Slot}
 use Rattle.table.specs.Slots.{slotWords, badTable, wordsOf, word, slotAt, empty}
-use Rattle.table.specs.SlotLaws.{lengths, slot-path, word-at}
+use Rattle.table.specs.SlotLaws.{lengths, word-at}
 use Rattle.table.specs.Formed.{broken}
-use Rattle.blocks.specs.Words.{checkPlace, byteBase, wordBytes, wordBase, blockOf, wordAt}
-use Rattle.blocks.specs.Groups.{groups-length, groups-at, groups-below, append-below, zeros-below}
-use Rattle.blocks.specs.WordLaws.{BlockWords, block-word}
-use Rattle.blocks.specs.WrittenLaws.{Written, Follow, whole}
-use Rattle.blocks.specs.Slots.{blockSlots, blocks, firstSlot, halves, halvesOf, slotsFrom, slotBlockWords, blockBroken, longAt, blockSlot}
+use Rattle.words.specs.Words.{checkPlace, byteBase, wordBytes, wordBase, blockOf, wordAt}
+use Rattle.words.specs.Groups.{groups-length, groups-at, groups-below, append-below, zeros-below}
+use Rattle.words.specs.WordLaws.{BlockWords, block-word}
+use Rattle.words.specs.WrittenLaws.{Written, Follow, whole}
+use Rattle.words.specs.LongLaws.{slot-of-words}
+use Rattle.words.specs.Longs.{blockSlots, halves, halvesOf, longAt, blockSlot}
+use Rattle.loads.specs.Slots.{blocks, firstSlot}
+use Rattle.blocks.specs.Slots.{slotsFrom, slotBlockWords, blockBroken}
 use Rattle.blocks.specs.FrontLaws.{slotTests}
 use Rattle.blocks.specs.SaveBlock.{saveBlockRefusal, saveBlockBlock}
 
@@ -180,7 +183,4 @@ module _ (t : List ℤ) (v : Version) (k : ℕ) (allowed : saveBlockRefusal t v 
 
     -- slot j of the block
     pub slot-back : (j : ℕ) → j < blockSlots → blockSlot (blockOf (slotBlockWords t k)) j ≡ slotAt t (firstSlot k + j)
-    unfolding blockSlot
-    slot-back j a =
-        slot-path (long-back j 0 a (omega arith)) (long-back j 1 a (omega arith)) (long-back j 2 a (omega arith)) (long-back j 3 a (omega arith))
-        (long-back j 4 a (omega arith)) (long-back j 5 a (omega arith)) (long-back j 6 a (omega arith)) (long-back j 7 a (omega arith))
+    slot-back j a = slot-of-words (blockOf (slotBlockWords t k)) j (slotAt t (firstSlot k + j)) (λ n b. long-back j n a b)

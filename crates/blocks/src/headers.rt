@@ -1,22 +1,10 @@
-// The header: made of the slots and the current version, and which of its words are not allowed.
+// The header, made of the slots and the current version.
 ghost use mathlib.Core.Path.{_≡_};
 ghost use mathlib.Core.List.{_∷_};
-ghost use lib.ListN.{length, replicate};
-ghost use Rattle.blocks.specs.Words.{blockBytes, blockOf};
-ghost use Rattle.blocks.specs.Headers.{headerWrong};
-use crate::words;
-use version::Version;
-
-// Block 0: word 1 is the slots, at most 1,024; word 2 the current version; the 124 words from 3 on are zero.
-pub const SLOTS_PLACE: usize = 1;
-
-pub const CURRENT_PLACE: usize = 2;
-
-const MOST_SLOTS: u32 = 1024;
-
-const FILLER_PLACE: usize = 3;
-
-const FILLER_WORDS: usize = 124;
+ghost use lib.ListN.{replicate};
+ghost use Rattle.words.specs.Words.{blockOf};
+use loads::headers::CURRENT_PLACE;
+use loads::headers::SLOTS_PLACE;
 
 // The block of a header. Its number and its filler are zero, and stand already.
 pub fn header_block(slots: u32, current: u32) -> [u8; 512]
@@ -27,18 +15,4 @@ pub fn header_block(slots: u32, current: u32) -> [u8; 512]
     let check = words::write_word(&mut block, CURRENT_PLACE, current, half);
     words::put_word(&mut block, words::CHECK_PLACE, check);
     block
-}
-
-// Refusal 16 of a header.
-pub fn header_wrong(block: &[u8]) -> bool
-    requires { ⌜ length (now block) ≡ blockBytes ⌝ }
-    ensures { λ r. ⌜ r ≡ headerWrong (now (block .entry)) ⌝ }
-{
-    let number = words::word_at(block, words::NUMBER_PLACE);
-    let slots = words::word_at(block, SLOTS_PLACE);
-    let current = words::word_at(block, CURRENT_PLACE) as i64;
-    (number != 0)
-        | !((1 <= slots) & (slots <= MOST_SLOTS))
-        | !((1 <= current) & (current <= Version::LARGEST))
-        | words::is_nonzero(block, FILLER_PLACE, FILLER_WORDS)
 }

@@ -11,9 +11,7 @@ ghost use Rattle.blocks.specs.LoadBlock.{BlockLoaded};
 use version::Version;
 
 mod headers;
-mod longs;
 mod slots;
-mod words;
 
 // The bytes of a block.
 pub const BLOCK_BYTES: usize = 512;
@@ -114,12 +112,12 @@ pub fn load_header(block: &[u8]) -> Header
     if words::check_wrong(block) {
         return Header::Refused(15);
     }
-    if headers::header_wrong(block) {
+    if loads::headers::header_wrong(block) {
         return Header::Refused(16);
     }
     Header::Of {
-        slots: words::word_at(block, headers::SLOTS_PLACE),
-        current: words::word_at(block, headers::CURRENT_PLACE) as i64,
+        slots: words::word_at(block, loads::headers::SLOTS_PLACE),
+        current: words::word_at(block, loads::headers::CURRENT_PLACE) as i64,
     }
 }
 
@@ -137,9 +135,9 @@ pub fn load_block(table: &mut [i64], version: Version, number: usize, block: &[u
     if words::check_wrong(block) {
         return Loaded::Refused(15);
     }
-    if slots::slot_block_wrong(table, version, number, block) {
+    if loads::slots::slot_block_wrong(table, version, number, block) {
         return Loaded::Refused(16);
     }
-    slots::load_slots(table, number, block);
+    loads::slots::load_slots(table, number, block);
     Loaded::Done
 }

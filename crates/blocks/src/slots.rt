@@ -1,29 +1,16 @@
-// Block k from 1: which blocks a table has, a block made of the table's slots, which of a block's words are not allowed, and
-// its slots written to the table.
+// Block k from 1: which blocks a table has, and a block made of the table's slots.
 ghost use mathlib.Core.Path.{_≡_};
 ghost use mathlib.Core.Bool.{false};
-ghost use Prim.Native.Nat.{_<_};
-ghost use lib.ListN.{length};
-ghost use Rattle.version.specs.Record.{badRecord};
 ghost use Rattle.laws.specs.First.{first};
-ghost use Rattle.laws.specs.Lowest.{some};
-ghost use Rattle.blocks.specs.Words.{blockBytes};
-ghost use Rattle.blocks.specs.Slots.{blockSlots, noSuchBlock, slotBlockWords, slotWrong, slotBlockWrong, loadedTo};
-ghost use Rattle.blocks.specs.FrontLaws.{slotTests, Within};
-ghost use Rattle.blocks.specs.LoadedLaws.{slotLoaded};
+ghost use Rattle.version.specs.Record.{badRecord};
+ghost use Rattle.loads.specs.Slots.{Within};
+ghost use Rattle.blocks.specs.Slots.{noSuchBlock, slotBlockWords};
+ghost use Rattle.blocks.specs.FrontLaws.{slotTests};
 ghost use Rattle.blocks.specs.ContractLaws.{Hands};
 use crate::Saved;
-use crate::longs;
-use crate::words;
 use version::Version;
-
-// Seven slots to a block.
-pub const BLOCK_SLOTS: usize = 7;
-
-// The 14 words from 113 on are zero.
-const FILLER_PLACE: usize = 113;
-
-const FILLER_WORDS: usize = 14;
+use words::longs;
+use words::longs::BLOCK_SLOTS;
 
 // Refusal 5: block number not in 1 to slots / 7 rounded up.
 pub fn no_such_block(table: &[i64], number: usize) -> bool
@@ -55,78 +42,5 @@ pub fn save_slots(table: &[i64], version: Version, number: usize) -> Saved
     Saved {
         refusal: 0,
         block: block,
-    }
-}
-
-// Whether a slot of a block is not well formed or, where it is beyond the table, not zero.
-fn slot_wrong(table: &[i64], version: Version, number: usize, block: &[u8], j: usize) -> bool
-    requires { ⌜ Within (now table) number ⌝ }
-    requires { ⌜ badRecord version ≡ false ⌝ }
-    requires { ⌜ length (now block) ≡ blockBytes ⌝ }
-    requires { ⌜ j < blockSlots ⌝ }
-    ensures { λ r. ⌜ r ≡ slotWrong (now (table .entry)) version number (now (block .entry)) j ⌝ }
-{
-    let x = longs::slot_of(block, j);
-    if BLOCK_SLOTS * (number - 1) + j < table.len() / table::SLOT_WORDS {
-        return !table::well_formed(x, version);
-    }
-    !table::all_zeros(x)
-}
-
-// Whether some slot of a block is.
-fn some_slot_wrong(table: &[i64], version: Version, number: usize, block: &[u8]) -> bool
-    requires { ⌜ Within (now table) number ⌝ }
-    requires { ⌜ badRecord version ≡ false ⌝ }
-    requires { ⌜ length (now block) ≡ blockBytes ⌝ }
-    ensures { λ r. ⌜ r ≡ some (slotWrong (now (table .entry)) version number (now (block .entry))) blockSlots ⌝ }
-{
-    let mut tested: usize = 0;
-    while tested < BLOCK_SLOTS {
-        if slot_wrong(table, version, number, block, tested) {
-            return true;
-        }
-        tested += 1;
-    }
-    false
-}
-
-// Refusal 16 of a block of slots.
-pub fn slot_block_wrong(table: &[i64], version: Version, number: usize, block: &[u8]) -> bool
-    requires { ⌜ Within (now table) number ⌝ }
-    requires { ⌜ badRecord version ≡ false ⌝ }
-    requires { ⌜ length (now block) ≡ blockBytes ⌝ }
-    ensures { λ r. ⌜ r ≡ slotBlockWrong (now (table .entry)) version number (now (block .entry)) ⌝ }
-{
-    let stored = words::word_at(block, words::NUMBER_PLACE) as usize;
-    (stored != number)
-        | words::is_nonzero(block, FILLER_PLACE, FILLER_WORDS)
-        | some_slot_wrong(table, version, number, block)
-}
-
-// A slot of a block written to the table, if it is not beyond it.
-fn load_slot(table: &mut [i64], number: usize, block: &[u8], j: usize)
-    requires { ⌜ Within (now table) number ⌝ }
-    requires { ⌜ length (now block) ≡ blockBytes ⌝ }
-    requires { ⌜ j < blockSlots ⌝ }
-    ensures { λ r. ⌜ now (table .exit) ≡ slotLoaded (now (table .entry)) number (now (block .entry)) j ⌝ }
-{
-    let place = BLOCK_SLOTS * (number - 1) + j;
-    if place >= table.len() / table::SLOT_WORDS {
-        return;
-    }
-    let x = longs::slot_of(block, j);
-    table::put_slot(table, place, x);
-}
-
-// The slots of a block written to the table.
-pub fn load_slots(table: &mut [i64], number: usize, block: &[u8])
-    requires { ⌜ Within (now table) number ⌝ }
-    requires { ⌜ length (now block) ≡ blockBytes ⌝ }
-    ensures { λ r. ⌜ now (table .exit) ≡ loadedTo (now (table .entry)) number (now (block .entry)) blockSlots ⌝ }
-{
-    let mut written: usize = 0;
-    while written < BLOCK_SLOTS {
-        load_slot(table, number, block, written);
-        written += 1;
     }
 }

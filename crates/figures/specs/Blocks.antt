@@ -10,7 +10,7 @@ use Rattle.version.specs.Record.{badRecord, freshRecord}
 use Rattle.table.specs.Slots.{freshTable, badTable, slotAt}
 use Rattle.table.specs.Totals.{lawful}
 use Rattle.table.specs.Formed.{allZeros, totalsLawful, usedWell, wellFormed}
-use Rattle.blocks.specs.Words.{checkPlace, bytesOf, blockOf, wordAt}
+use Rattle.words.specs.Words.{checkPlace, bytesOf, blockOf, wordAt}
 use Rattle.blocks.specs.Headers.{headerWords}
 use Rattle.blocks.specs.Slots.{slotBlockWords, blockBroken}
 use Rattle.blocks.specs.SaveHeader.{saveHeaderRefusal, saveHeaderBlock}

@@ -7,8 +7,9 @@ use native.Mathlib.Omega.{arith}
 use borrow.Author.Needs.{needs}
 use borrow.Author.Tests.{ne-eqb}
 use Rattle.laws.specs.First.{first, after, hit, skip, done, pass, stop}
-use Rattle.blocks.specs.WordLaws.{whole-block}
-use Rattle.blocks.specs.FrontLaws.{blockTests, Within, within, known}
+use Rattle.words.specs.WordLaws.{whole-block}
+use Rattle.loads.specs.Slots.{Within}
+use Rattle.blocks.specs.FrontLaws.{blockTests, within, known}
 use Rattle.blocks.specs.LoadBlock.{loadBlockTests, loadBlockRefusal}
 use Rattle.blocks.specs.ContractLaws.{block-not-loaded, block-loaded}
 use Rattle.blocks.proofs.load_block.Statement.{statement}

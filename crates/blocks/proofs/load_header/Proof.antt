@@ -8,9 +8,10 @@ use mir.ValLaws.{toZ-pos}
 use borrow.Author.Needs.{needs}
 use borrow.Author.Tests.{ne-eqb}
 use Rattle.laws.specs.First.{hit, skip, done}
-use Rattle.blocks.specs.Words.{notBlock, checkWrong}
-use Rattle.blocks.specs.WordLaws.{whole-block}
-use Rattle.blocks.specs.Headers.{headerWrong, headerOf}
+use Rattle.words.specs.Words.{notBlock, checkWrong}
+use Rattle.words.specs.WordLaws.{whole-block}
+use Rattle.loads.specs.Headers.{headerWrong}
+use Rattle.blocks.specs.Headers.{headerOf}
 use Rattle.blocks.specs.LoadHeader.{loadHeaderRefusal}
 use Rattle.blocks.specs.ContractLaws.{header-not-loaded, header-loaded}
 use Rattle.blocks.proofs.load_header.Statement.{statement}

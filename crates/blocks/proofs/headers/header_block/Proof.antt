@@ -4,7 +4,7 @@ use mathlib.Core.Path.{refl, _∙_}
 use mathlib.Core.List.{[]}
 use native.Mathlib.Omega.{arith}
 use borrow.Author.Needs.{needs}
-use Rattle.blocks.specs.WrittenLaws.{nothing-written, filler-stands, whole}
+use Rattle.words.specs.WrittenLaws.{nothing-written, filler-stands, whole}
 use Rattle.blocks.proofs.headers.header_block.Statement.{statement}
 use Rattle.blocks.proofs.headers.header_block.Tie as tie
 

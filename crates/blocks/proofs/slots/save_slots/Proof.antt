@@ -12,8 +12,9 @@ use Rattle.version.specs.declared.Version.{Version}
 use Rattle.table.specs.Slots.{slotAt}
 use Rattle.table.specs.SlotLaws.{lengths}
 use Rattle.table.specs.Formed.{broken}
-use Rattle.blocks.specs.WrittenLaws.{Written, nothing-written}
-use Rattle.blocks.specs.Slots.{blockSlots, firstSlot}
+use Rattle.words.specs.WrittenLaws.{Written, nothing-written}
+use Rattle.words.specs.Longs.{blockSlots}
+use Rattle.loads.specs.Slots.{firstSlot}
 use Rattle.blocks.specs.SlotBlockLaws.{numbered, slot-written, slots-whole, slot-broken, none-broken}
 use Rattle.blocks.specs.ContractLaws.{zeros-handed}
 use Rattle.blocks.proofs.slots.save_slots.Statement.{statement}

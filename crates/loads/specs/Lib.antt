@@ -1,0 +1,4 @@
+pub mod Headers
+pub mod Slots
+pub mod AllowedLaws
+pub mod LoadedLaws
