@@ -11,5 +11,4 @@ pub mod Running
 pub mod Insert
 pub mod Update
 pub mod Delete
-pub mod FoundLaws
 pub mod PlacedLaws

@@ -8,13 +8,13 @@ ghost use lib.Dec.{ltb};
 ghost use Rattle.laws.specs.Cells.{columns, cellAt};
 ghost use Rattle.version.specs.Record.{badRecord, runNumber};
 ghost use Rattle.table.specs.Slots.{badTable, slots, empty};
+ghost use Rattle.table.specs.Formed.{broken};
 ghost use Rattle.table.specs.Free.{freeSlot};
 ghost use Rattle.changes.specs.Tables.{newInsert, restored, saved, corrected, removed, marked, written, changed};
 ghost use Rattle.changes.specs.Running.{runningRefusal};
 ghost use Rattle.changes.specs.Insert.{Inserted};
 ghost use Rattle.changes.specs.Update.{Updated};
 ghost use Rattle.changes.specs.Delete.{Deleted};
-ghost use Rattle.changes.specs.FoundLaws.{keyOf};
 ghost use Rattle.changes.specs.PlacedLaws.{givenRefusal, Leaves, RowAdded, RowChanged};
 use table::Slot;
 use version::Version;
@@ -45,22 +45,30 @@ const MARK: u8 = 7;
 // A row for an older run, then a row for this run; to a row the columns empty, insert, update, delete.
 type Cells = [u8; 8];
 
-const COLUMNS: usize = 4;
-
 const TABLE_2: Cells = [NEW, NEVER, NEVER, NEW, NEVER, NEVER, NEVER, RESTORE];
 
 const TABLE_3: Cells = [NEVER, SAVE, SAVE, NEVER, NEVER, CORRECT, CORRECT, NEVER];
 
 const TABLE_4: Cells = [NEVER, REMOVE, REMOVE, NEVER, NEVER, ERASE, MARK, NEVER];
 
+// The cell of the first row or of the second.
+fn of_rows(older: bool, first: u8, second: u8) -> u8
+    ensures { λ r. ⌜ r ≡ cond older first second ⌝ }
+{
+    if older { first } else { second }
+}
+
+// Each place is a constant, so that a table is read where the code is compiled and not while it runs.
 fn cell_of(cells: Cells, older: bool, column: usize) -> u8
     requires { ⌜ column < columns ⌝ }
     ensures { λ r. ⌜ r ≡ cellAt cells older column ⌝ }
 {
-    if older {
-        return cells[column];
+    match column {
+        0 => of_rows(older, cells[0], cells[4]),
+        1 => of_rows(older, cells[1], cells[5]),
+        2 => of_rows(older, cells[2], cells[6]),
+        _ => of_rows(older, cells[3], cells[7]),
     }
-    cells[COLUMNS + column]
 }
 
 // What each cell leaves of a slot, a function a cell.
@@ -214,24 +222,12 @@ fn place(table: &mut [i64], k: usize, x: Slot) -> Placed
     Placed::At(k)
 }
 
-// What stands at a key: its slot's number and the slot, or a slot that is not well formed.
-enum Key {
-    Found(usize, Slot),
-    Broken,
-}
-
-// The one search of a change, and refusal 6.
-fn key_of(table: &[i64], version: Version, one: i64, two: i64) -> Key
-    requires { ⌜ badTable (now table) ≡ false ⌝ }
+// Refusal 6, of the key's slot.
+fn is_broken(x: Slot, version: Version) -> bool
     requires { ⌜ badRecord version ≡ false ⌝ }
-    ensures { λ r. ⌜ r ≡ keyOf (now (table .entry)) version one two ⌝ }
+    ensures { λ r. ⌜ r ≡ broken x version ⌝ }
 {
-    let k = table::key_slot(table, one, two);
-    let x = table::slot_at(table, k);
-    if !table::well_formed(x, version) {
-        return Key::Broken;
-    }
-    Key::Found(k, x)
+    !table::well_formed(x, version)
 }
 
 // The number of the slot that an insert takes: that of the key's, or where the key has none that of a free one.
@@ -259,9 +255,11 @@ fn add_row(
     requires { ⌜ badRecord version ≡ false ⌝ }
     ensures { λ r. ⌜ RowAdded (now (table .entry)) version one two first second r (now (table .exit)) ⌝ }
 {
-    let Key::Found(k, x) = key_of(table, version, one, two) else {
+    let k = table::key_slot(table, one, two);
+    let x = table::slot_at(table, k);
+    if is_broken(x, version) {
         return Placed::Refused(6);
-    };
+    }
     if table::is_live(x) {
         return Placed::Refused(10);
     }
@@ -290,9 +288,11 @@ fn change_row(
     requires { ⌜ badRecord version ≡ false ⌝ }
     ensures { λ r. ⌜ RowChanged cells (now (table .entry)) version one two first second r (now (table .exit)) ⌝ }
 {
-    let Key::Found(k, x) = key_of(table, version, one, two) else {
+    let k = table::key_slot(table, one, two);
+    let x = table::slot_at(table, k);
+    if is_broken(x, version) {
         return Placed::Refused(6);
-    };
+    }
     if !table::is_live(x) {
         return Placed::Refused(11);
     }

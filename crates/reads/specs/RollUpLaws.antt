@@ -1,7 +1,7 @@
 -- The laws of the roll-up: over well formed slots the count is at most the number of slots and each sum is within 10^15 for
 -- each of them, so that both fit; by induction on the slots, a row at a time. Assumes nothing.
-use mathlib.Core.Path.{_≡_}
-use mathlib.Core.Bool.{true}
+use mathlib.Core.Path.{_≡_, refl}
+use mathlib.Core.Bool.{true, false}
 use mathlib.Core.List.{List}
 use Prim.Native.Nat.{ℕ, zero, suc, _*_, _≤_, _<_}
 use native.Mathlib.Omega.{arith}
@@ -12,12 +12,14 @@ use Rattle.laws.specs.Tests.{by-test}
 use Rattle.laws.specs.Order.{eqZ}
 use Rattle.laws.specs.Sums.{sum-within, small-fits}
 use Rattle.version.specs.declared.Version.{Version}
+use Rattle.table.specs.declared.Slot.{Slot}
 use Rattle.table.specs.Slots.{slotAt}
 use Rattle.table.specs.TotalLaws.{Given, largestTotal, lawful-within}
 use Rattle.table.specs.Formed.{wellFormed}
 use Rattle.reads.specs.declared.Seen.{Seen}
 use Rattle.reads.specs.declared.Seen.the-variants.{Row, NoRow, Refused}
 use Rattle.reads.specs.Table1.{shown}
+use Rattle.reads.specs.ShownLaws.{shown-cases}
 use Rattle.reads.specs.Table1Laws.{LawfulRow, shown-lawful}
 use Rattle.reads.specs.RollUp.{Tally, counted, tallied, tally, seen}
 
@@ -51,6 +53,15 @@ tallied-bounded one (Row k1 k2 a b) n g h =
     by-test (eqZ k1 one) (λ y. rw y (counted-bounded n g h)) (λ m. rw m (bounded-more (omega arith) h))
 tallied-bounded one NoRow n g h = bounded-more (omega arith) h
 tallied-bounded one (Refused r) n g h = bounded-more (omega arith) h
+
+-- ---- what is shown of a slot has the slot's first key word, which alone says whether it counts
+pub tallied-other : (s one : ℤ) (x : Slot) (n : Tally) → eqZ (x .key1) one ≡ false → tallied one (shown s x) n ≡ n
+tallied-other s one x n h = shown-cases (λ r. tallied one r n ≡ n) s x (λ u. rw h) (λ u. rw h) refl
+
+pub tallied-own : (s one : ℤ) (x : Slot) (n : Tally) {k1 k2 a b : ℤ} → eqZ (x .key1) one ≡ true → shown s x ≡ Row k1 k2 a b
+    → tallied one (shown s x) n ≡ counted a b n
+tallied-own s one x n {k1} {k2} {a} {b} h =
+    shown-cases (λ r. r ≡ Row k1 k2 a b → tallied one r n ≡ counted a b n) s x (λ u e. rw h (cc)) (λ u e. rw h (cc)) (λ e. cc)
 
 -- the first k slots, all well formed
 pub tally-bounded : (t : List ℤ) (v : Version) (s one : ℤ) (k : ℕ) → ((j : ℕ) → j < k → wellFormed (slotAt t j) v ≡ true)

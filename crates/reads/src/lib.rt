@@ -1,7 +1,7 @@
 // What a session reads: Table 1, and the three reads, of a slot, of a key, and the roll-up. Each read begins with the tests of
 // its session, and walks the table at most once. `show` is a leaf for our other crates.
 ghost use mathlib.Core.Path.{_≡_};
-ghost use mathlib.Core.Bool.{false};
+ghost use mathlib.Core.Bool.{false, cond};
 ghost use mathlib.Core.List.{[], _∷_};
 ghost use Prim.Native.Nat.{_<_};
 ghost use Rattle.laws.specs.First.{first, unless};
@@ -51,8 +51,6 @@ const READ_CURRENT: u8 = 1;
 const READ_OLD: u8 = 2;
 
 // Table 1: a row for the sessions from the slot's run number on, then a row for those before it; in each the four columns.
-const COLUMNS: usize = 4;
-
 const TABLE_1: [u8; 8] = [
     IGNORE_TUPLE, // empty, from its run on
     READ_CURRENT, // insert, from its run on
@@ -64,14 +62,24 @@ const TABLE_1: [u8; 8] = [
     READ_OLD, // delete, before its run
 ];
 
+// The cell of the first row or of the second.
+fn of_rows(seen: bool, from: u8, before: u8) -> u8
+    ensures { λ r. ⌜ r ≡ cond seen from before ⌝ }
+{
+    if seen { from } else { before }
+}
+
+// Each place is a constant, so that the table is read where the code is compiled and not while it runs.
 fn cell_1(seen: bool, column: usize) -> u8
     requires { ⌜ column < columns ⌝ }
     ensures { λ r. ⌜ r ≡ cellAt table1 seen column ⌝ }
 {
-    if seen {
-        return TABLE_1[column];
+    match column {
+        0 => of_rows(seen, TABLE_1[0], TABLE_1[4]),
+        1 => of_rows(seen, TABLE_1[1], TABLE_1[5]),
+        2 => of_rows(seen, TABLE_1[2], TABLE_1[6]),
+        _ => of_rows(seen, TABLE_1[3], TABLE_1[7]),
     }
-    TABLE_1[COLUMNS + column]
 }
 
 // What a session sees of a slot.
@@ -105,14 +113,16 @@ pub fn show(x: Slot, session: i64) -> Seen
     Seen::NoRow
 }
 
-// The refusals that begin every read's list, 0 for none.
+// The refusals that begin every read's list, 0 for none. The tests of 1 and 2 are one branch where neither holds.
 fn session_refusal(table: &[i64], version: Version, session: i64) -> u32
     ensures { λ r. ⌜ r ≡ sessionRefusal (now (table .entry)) version session ⌝ }
 {
-    if table::bad_table(table) {
-        return 1;
-    }
-    if version::bad_record(version) {
+    let bad_table = table::bad_table(table);
+    let bad_record = version::bad_record(version);
+    if bad_table | bad_record {
+        if bad_table {
+            return 1;
+        }
         return 2;
     }
     let unborn = version::is_unborn(version, session);
@@ -159,8 +169,11 @@ pub fn read_key(table: &[i64], version: Version, session: i64, one: i64, two: i6
     if refusal != 0 {
         return Seen::Refused(refusal);
     }
-    let slot = table::key_slot(table, one, two);
-    show_formed(table::slot_at(table, slot), version, session)
+    let k = table::key_slot(table, one, two);
+    if k >= table.len() / table::SLOT_WORDS {
+        return Seen::NoRow;
+    }
+    show_formed(table::slot_at(table, k), version, session)
 }
 
 // The tally with what a session sees of one slot more: a row with that first key word counts.
@@ -169,22 +182,21 @@ fn tally_slot(tally: Tally, x: Slot, session: i64, one: i64) -> Tally
     requires { ⌜ Bounded 1023 tally ⌝ }
     ensures { λ r. ⌜ r ≡ tallied one (shown session x) tally ⌝ }
 {
+    let key1 = x.key1;
+    if key1 != one {
+        return tally;
+    }
     match show(x, session) {
         Seen::Row {
-            one: key1,
+            one: _,
             two: _,
             first,
             second,
-        } => {
-            if key1 != one {
-                return tally;
-            }
-            Tally {
-                count: tally.count + 1,
-                first: tally.first + first,
-                second: tally.second + second,
-            }
-        }
+        } => Tally {
+            count: tally.count + 1,
+            first: tally.first + first,
+            second: tally.second + second,
+        },
         Seen::NoRow => tally,
         Seen::Refused(_) => tally,
     }

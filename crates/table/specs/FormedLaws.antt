@@ -1,13 +1,13 @@
 -- The laws of well formed slots: one is empty, or used as `Used` says, and nothing else is well formed. Assumes nothing.
 use mathlib.Core.Path.{_≡_, refl, ap, ap₂}
-use mathlib.Core.Bool.{true, false, not, _&&_, _||_, or-true}
+use mathlib.Core.Bool.{true, false, not, _&&_, _||_, or-true, or-false}
 use mathlib.Core.List.{List}
 use Prim.Native.Nat.{ℕ, _<_}
 use lib.IntN.{ℤ, pos, negsuc}
 use lib.Signed.{leZ}
 use native.Mathlib.Omega.{arith}
 use borrow.Author.Tests.{leb-true, eqb-false}
-use Rattle.laws.specs.Tests.{all, all-at, by-test, clash, not-no}
+use Rattle.laws.specs.Tests.{all, all-at, all-no, by-test, clash, not-no}
 use Rattle.laws.specs.Order.{eqZ, eqZ-true, fromTo, from-to, leZ-trans}
 use Rattle.laws.specs.Lowest.{none-passes, all-fail}
 use Rattle.version.specs.declared.Version.{Version}
@@ -15,7 +15,7 @@ use Rattle.version.specs.Record.{lastRun}
 use Rattle.table.specs.declared.Slot.{Slot}
 use Rattle.table.specs.Slots.{empty, slots, slotAt}
 use Rattle.table.specs.SlotLaws.{slot-path}
-use Rattle.table.specs.Operations.{insertOperation, updateOperation, deleteOperation, live}
+use Rattle.table.specs.Operations.{emptyOperation, insertOperation, updateOperation, deleteOperation, live}
 use Rattle.table.specs.OperationLaws.{dead-empty, live-insert, live-update}
 use Rattle.table.specs.Totals.{lawful}
 use Rattle.table.specs.Formed.{allZeros, totalsLawful, oldZero, usedWell, wellFormed, broken, anyBroken}
@@ -67,6 +67,23 @@ well-used u =
 pub formed-cases : (x : Slot) (v : Version) → wellFormed x v ≡ true → {P : Type 0} → (x ≡ empty → P) → (Used x v → P) → P
 unfolding wellFormed
 formed-cases x v w f g = by-test (allZeros x) (λ z. f (zeros-empty x z)) (λ n. g (well-used (rw n at w)))
+
+-- ---- a slot with operation 0 is well formed if it is all zeros, and another if it is used well
+empty-unused : (x : Slot) (v : Version) → x .operation ≡ emptyOperation → usedWell x v ≡ false
+unfolding usedWell
+empty-unused x v e = all-no _ 0 (rw e refl)
+
+used-nonzero : (x : Slot) → eqZ (x .operation) emptyOperation ≡ false → allZeros x ≡ false
+unfolding allZeros
+used-nonzero x n = all-no _ 1 n
+
+pub formed-empty : (x : Slot) (v : Version) → x .operation ≡ emptyOperation → wellFormed x v ≡ allZeros x
+unfolding wellFormed
+formed-empty x v e = rw (empty-unused x v e) (or-false _)
+
+pub formed-used : (x : Slot) (v : Version) → eqZ (x .operation) emptyOperation ≡ false → wellFormed x v ≡ usedWell x v
+unfolding wellFormed
+formed-used x v n = rw (used-nonzero x n)
 
 -- ---- a live slot that is well formed is used
 pub live-used : (x : Slot) (v : Version) → live x ≡ true → wellFormed x v ≡ true → Used x v

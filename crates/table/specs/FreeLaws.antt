@@ -3,6 +3,7 @@
 use mathlib.Core.Path.{_≡_, refl}
 use mathlib.Core.Bool.{true, false}
 use mathlib.Core.List.{List}
+use Prim.Native.Nat.{ℕ, _+_, _≤_, _<_}
 use lib.IntN.{ℤ}
 use lib.Signed.{ltZ}
 use Rattle.laws.specs.Tests.{all-at, all-yes, by-test, clash}
@@ -12,7 +13,9 @@ use Rattle.version.specs.declared.Version.{Version}
 use Rattle.version.specs.Record.{runNumber}
 use Rattle.table.specs.declared.Slot.{Slot}
 use Rattle.table.specs.Slots.{empty, slots, slotAt}
-use Rattle.table.specs.Operations.{deleteOperation}
+use Rattle.table.specs.SlotLaws.{four-more}
+use Rattle.table.specs.Operations.{deleteOperation, live}
+use Rattle.table.specs.OperationLaws.{dead-empty, dead-delete}
 use Rattle.table.specs.Formed.{allZeros, wellFormed}
 use Rattle.table.specs.FormedLaws.{Used, zeros-empty, empty-zeros, formed-cases}
 use Rattle.table.specs.Free.{longDeleted, free, freeSlot}
@@ -33,6 +36,24 @@ free-cases x v h f g =
     by-test (allZeros x) (λ z. f (zeros-empty x z))
     (λ n. let d = rw n at h in
     g (record { operation = eqZ-true _ _ (all-at _ 0 d); older = all-at _ 1 d; formed = all-at _ 2 d }))
+
+-- ---- a live slot is not free
+pub live-kept : (x : Slot) (v : Version) → live x ≡ true → free x v ≡ false
+live-kept x v l =
+    by-test (free x v) (λ y. free-cases x v y (λ e. clash l (rw e dead-empty)) (λ d. clash l (dead-delete x (d .operation)))) (λ n. n)
+
+-- ---- a search passes four slots that are all live
+pub record FourLive (t : List ℤ) (k : ℕ) : Type 0 where
+  pub room : k + 4 ≤ slots t
+  pub first : live (slotAt t k) ≡ true
+  pub second : live (slotAt t (k + 1)) ≡ true
+  pub third : live (slotAt t (k + 2)) ≡ true
+  pub fourth : live (slotAt t (k + 3)) ≡ true
+
+pub past-live : {t : List ℤ} {k : ℕ} (v : Version) → FourLive t k → ((j : ℕ) → j < k → free (slotAt t j) v ≡ false)
+    → (j : ℕ) → j < k + 4 → free (slotAt t j) v ≡ false
+past-live {t} v f b =
+    four-more {p = λ i. free (slotAt t i) v} b (live-kept _ v (f .first)) (live-kept _ v (f .second)) (live-kept _ v (f .third)) (live-kept _ v (f .fourth))
 
 -- ---- a well formed slot that is not free is used, and if it is deleted then not by an older run
 pub record Busy (x : Slot) (v : Version) : Type 0 where

@@ -3,7 +3,7 @@
 use mathlib.Core.Path.{_≡_, refl, ap}
 use mathlib.Core.Bool.{true, false, not, _&&_}
 use mathlib.Core.List.{List}
-use Prim.Native.Nat.{ℕ, _≤_, _<_}
+use Prim.Native.Nat.{ℕ, _+_, _≤_, _<_}
 use native.Mathlib.Nat.{lt-of-lt-of-le}
 use lib.Dec.{ltb}
 use borrow.Author.Tests.{ltb-true, ltb-false}
@@ -13,7 +13,7 @@ use Rattle.laws.specs.Order.{eqZ, eqZ-true, eqZ-same}
 use Rattle.laws.specs.Lowest.{Lowest, lowest-is}
 use Rattle.table.specs.declared.Slot.{Slot}
 use Rattle.table.specs.Slots.{badTable, slots, slotAt, empty}
-use Rattle.table.specs.SlotLaws.{slotAt-past}
+use Rattle.table.specs.SlotLaws.{slotAt-past, four-more}
 use Rattle.table.specs.Operations.{emptyOperation}
 use Rattle.table.specs.OperationLaws.{dead-empty}
 use Rattle.table.specs.Keys.{hasKey, keySlot, keyed, keyLive}
@@ -41,6 +41,25 @@ keyed-has k = all-yes _ (ap not (k .used), (eqZ-same (k .key1), (eqZ-same (k .ke
 pub key-words : (x : Slot) (one two : ℤ) → eqZ (x .operation) emptyOperation ≡ false → hasKey x one two ≡ eqZ (x .key1) one && eqZ (x .key2) two
 unfolding hasKey all
 key-words x one two u = rw u refl
+
+-- a slot with another second key word has not the key
+pub other-key : (x : Slot) (one two : ℤ) → eqZ (x .key2) two ≡ false → hasKey x one two ≡ false
+unfolding hasKey
+other-key x one two h = all-no _ 2 h
+
+-- ---- a search passes four slots whose second key words are all another
+pub record FourApart (t : List ℤ) (k : ℕ) (two : ℤ) : Type 0 where
+  pub room : k + 4 ≤ slots t
+  pub first : eqZ (slotAt t k .key2) two ≡ false
+  pub second : eqZ (slotAt t (k + 1) .key2) two ≡ false
+  pub third : eqZ (slotAt t (k + 2) .key2) two ≡ false
+  pub fourth : eqZ (slotAt t (k + 3) .key2) two ≡ false
+
+pub past-four : {t : List ℤ} {k : ℕ} {two : ℤ} (one : ℤ) → FourApart t k two → ((j : ℕ) → j < k → hasKey (slotAt t j) one two ≡ false)
+    → (j : ℕ) → j < k + 4 → hasKey (slotAt t j) one two ≡ false
+past-four {t} {k} {two} one f b =
+    four-more {p = λ i. hasKey (slotAt t i) one two} b
+    (other-key _ one two (f .first)) (other-key _ one two (f .second)) (other-key _ one two (f .third)) (other-key _ one two (f .fourth))
 
 -- the empty slot has no key
 pub empty-keyless : (one two : ℤ) → hasKey empty one two ≡ false

@@ -1,8 +1,9 @@
 -- The laws of the operation word: its column and live go by it alone, and what they are at each operation. Assumes nothing.
 use mathlib.Core.Path.{_≡_, refl}
-use mathlib.Core.Bool.{true, false}
+use mathlib.Core.Bool.{Bool, true, false, _||_}
 use Prim.Native.Nat.{_<_}
 use lib.Dec.{lit<}
+use lib.IntN.{ℤ}
 use Rattle.laws.specs.Tests.{by-test, clash}
 use Rattle.laws.specs.Order.{eqZ, eqZ-true}
 use Rattle.laws.specs.Cells.{columns}
@@ -25,6 +26,14 @@ column-same x y e = rw e refl
 pub live-same : (x y : Slot) → x .operation ≡ y .operation → live x ≡ live y
 unfolding live
 live-same x y e = rw e refl
+
+-- live, of the operation word alone
+abbrev pub liveWord : ℤ → Bool
+liveWord z = eqZ z insertOperation || eqZ z updateOperation
+
+pub live-word : (x : Slot) → live x ≡ liveWord (x .operation)
+unfolding live
+live-word x = refl
 
 -- at each operation
 pub column-empty : (x : Slot) → x .operation ≡ emptyOperation → column x ≡ 0

@@ -1,12 +1,17 @@
 -- `reads::read_key` meets its contract. `past4` says which tests are left once the first four have failed, and the answer is
 -- then `show_formed`'s of the key's slot. Assumes nothing.
-use mathlib.Core.Path.{_≡_, sym, _∙_}
+use mathlib.Core.Path.{_≡_, sym, ap, _∙_}
+use mathlib.Core.Bool.{not}
 use borrow.Author.Needs.{needs}
 use Rattle.laws.specs.Bits.{plain}
-use Rattle.laws.specs.First.{first, after, unless-refused, pass, stop}
-use Rattle.table.specs.Keys.{keyed}
+use Rattle.laws.specs.First.{first, after, unless-refused, unless-done, skip, done, pass, stop}
+use Rattle.table.specs.Slots.{empty}
+use Rattle.table.specs.SlotLaws.{slotAt-past}
+use Rattle.table.specs.FormedLaws.{empty-formed}
+use Rattle.table.specs.Keys.{keySlot, keyed}
 use Rattle.reads.specs.declared.Seen.the-variants.{Refused}
 use Rattle.reads.specs.Session.{sessionTests, sessionRefusal, Open, opened}
+use Rattle.reads.specs.Table1Laws.{shown-empty}
 use Rattle.reads.specs.ReadKey.{readKeyTests, readKeyRefusal, readKeyAnswer}
 use Rattle.reads.proofs.read_key.Statement.{statement}
 use Rattle.reads.proofs.read_key.Tie as tie
@@ -31,24 +36,34 @@ past4 : (c : P4) → let a = s4 c .args in
 unfolding readKeyRefusal sessionRefusal
 past4 c = pass (sessionTests _ _ _) _ tt (asked (c .before) ∙ c .if1 .left)
 
--- the slot that was read is the key's
-slot : (c : tie.After-slot-at) → let a = s4 (c .before .before) .args in c .slot-at .result ≡ keyed (a .table .now) (a .one) (a .two)
-slot c =
-    let f = s4 (c .before .before) .fits in
-    simp (c .before .key-slot .ensures, plain _ (f .one), plain _ (f .two)) at (c .slot-at .ensures)
+-- the search found the key's slot
+found : (c : tie.After-key-slot) → let a = s4 (c .before) .args in c .key-slot .result ≡ keySlot (a .table .now) (a .one) (a .two)
+found c = let f = s4 (c .before) .fits in rw (plain _ (f .one), plain _ (f .two)) at (c .key-slot .ensures)
 
 is1-to-4 : tie.Need-returns
 unfolding readKeyRefusal readKeyAnswer sessionRefusal
 is1-to-4 c = record { answer = unless-refused Refused _ (stop (sessionTests _ _ _) _ _ (asked (c .before)) (c .if1 .taken)) (c .if1 .taken) }
 
-shows : tie.Need-returns-2
+-- an absent key's slot is the empty one, which is well formed and no row
+absent : tie.Need-returns-2
+unfolding readKeyAnswer
+absent c =
+    let k = c .before in
+    let p = k .before in
+    let a = s4 p .args in
+    let e : keyed (a .table .now) (a .one) (a .two) ≡ empty = slotAt-past _ _ (can p .table) (rw (found k) at (c .if2 .taken)) in
+    record { answer = unless-done Refused (past4 p ∙ skip _ _ (rw e (ap not (empty-formed _))) ∙ done) (rw e (sym (shown-empty _))) }
+
+shows : tie.Need-returns-3
 unfolding readKeyAnswer
 shows c =
     let x = c .before in
-    let p = x .before .before in
-    record { answer = rw (past4 p) (rw (plain _ (s4 p .fits .session), slot x) at (c .show-formed .ensures)) }
+    let k = x .before .before in
+    let p = k .before in
+    record { answer = rw (past4 p) (rw (plain _ (s4 p .fits .session), x .slot-at .ensures, found k) at (c .show-formed .ensures)) }
 
 pub read-key-spec : {M : Type 1} → statement M
 read-key-spec =
     tie.close
-    (tie.spec (λ c κs. search needs) is1-to-4 (λ c κs. can c .table) (λ c κs. can (c .before) .table) (λ c κs. can (c .before .before) .known) shows)
+    (tie.spec (λ c κs. search needs) is1-to-4 (λ c κs. can c .table) absent
+    (λ c κs. can (c .before .before) .table) (λ c κs. can (c .before .before .before) .known) shows)

@@ -1,44 +1,51 @@
--- `reads::tally_slot` meets its contract: each arm is given which constructor the slot shows, at which `tallied` computes. The
--- sums fit since a row that is shown has lawful totals and the tally is one of fewer than 1,024 rows. Assumes nothing.
+-- `reads::tally_slot` meets its contract: a slot with another first key word never counts (`tallied-other`); of one with that
+-- key word each arm is given which constructor the slot shows, at which `tallied` computes. The sums fit since a row that is
+-- shown has lawful totals and the tally is one of fewer than 1,024 rows. Assumes nothing.
 use mathlib.Core.Path.{_≡_, sym, ap, _∙_}
+use mathlib.Core.Bool.{true}
 use native.Mathlib.Numerals.{add-one}
 use native.Mathlib.Omega.{arith}
 use lib.IntN.{ℤ}
 use mir.Syntax.{w64}
 use mir.Val.{SFits}
 use borrow.Author.Needs.{needs}
+use Rattle.laws.specs.Order.{eqZ}
 use Rattle.laws.specs.Bits.{plain, is, isnt}
 use Rattle.reads.specs.declared.Seen.the-variants.{Row}
 use Rattle.reads.specs.Table1.{shown}
 use Rattle.reads.specs.RollUp.{counted, tallied}
-use Rattle.reads.specs.RollUpLaws.{bounded-more, counted-bounded, SumsFit, sums-fit}
+use Rattle.reads.specs.RollUpLaws.{bounded-more, counted-bounded, SumsFit, sums-fit, tallied-other, tallied-own}
 use Rattle.reads.proofs.tally_slot.Statement.{statement}
 use Rattle.reads.proofs.tally_slot.Tie as tie
 
+key1-fits : (c : tie.After-struct-told) → SFits w64 (c .before .args .x .key1)
+key1-fits c = search needs
+
+other : tie.Need-returns
+other c = let b = c .before in sym (tallied-other _ _ _ _ (isnt _ _ (key1-fits b) (b .before .fits .one) (c .if1 .taken)))
+
+own : (c : tie.Else1) → let a = c .before .before .args in eqZ (a .x .key1) (a .one) ≡ true
+own c = let b = c .before in is _ _ (key1-fits b) (b .before .fits .one) (c .if1 .left)
+
+seen : (c : tie.After-show) → let a = c .before .before .before .args in c .show .result ≡ shown (a .session) (a .x)
+seen c = rw (plain _ (c .before .before .before .fits .session)) at (c .show .ensures)
+
+-- ---- a row: its four words
+abbrev shows : tie.After-known-told → tie.After-show
+shows c = c .before .before .before
+
 abbrev start : tie.After-known-told → tie.Start
-start c = c .before .before .before .before
-
--- the four words of the row
-abbrev key1 : tie.After-known-told → ℤ
-key1 c = c .before .key1 .given .0 .0
-
-abbrev key2 : tie.After-known-told → ℤ
-key2 c = c .before .key1 .given .0 .1 .0
+start c = shows c .before .before .before
 
 abbrev first : tie.After-known-told → ℤ
-first c = c .before .key1 .given .0 .1 .1 .0
+first c = c .before .first .given .0 .1 .1 .0
 
 abbrev second : tie.After-known-told → ℤ
-second c = c .before .key1 .given .0 .1 .1 .1 .0
+second c = c .before .first .given .0 .1 .1 .1 .0
 
-seen : (c : tie.After-show) → c .show .result ≡ shown (c .before .args .session) (c .before .args .x)
-seen c = rw (plain _ (c .before .fits .session)) at (c .show .ensures)
-
-row : (c : tie.After-known-told) → let a = start c .args in shown (a .session) (a .x) ≡ Row (key1 c) (key2 c) (first c) (second c)
-row c = sym (seen (c .before .before .before)) ∙ c .before .key1 .given .1
-
-key1-fits : (c : tie.After-known-told) → SFits w64 (key1 c)
-key1-fits c = search needs
+row : (c : tie.After-known-told) → let a = start c .args in
+    shown (a .session) (a .x) ≡ Row (c .before .first .given .0 .0) (c .before .first .given .0 .1 .0) (first c) (second c)
+row c = sym (seen (shows c)) ∙ c .before .first .given .1
 
 first-fits : (c : tie.After-known-told) → SFits w64 (first c)
 first-fits c = search needs
@@ -53,26 +60,22 @@ before c = sums-fit (bounded-more (omega arith) (start c .pre .1))
 after : (c : tie.After-known-told) → SumsFit (counted (first c) (second c) (start c .args .tally))
 after c = sums-fit (counted-bounded _ (rw (row c) at (start c .pre .0)) (start c .pre .1))
 
-other : tie.Need-returns
-other c = let b = c .before in rw (row b, isnt _ _ (key1-fits b) (start b .fits .one) (c .if1 .taken))
-
 add-first : tie.Need-add-t12
 add-first c =
-    let b = c .before .before .before .before in
+    let b = c .before .before .before in
     simp (plain _ (before b .first), plain _ (first-fits b)) (after b .first)
 
 add-second : tie.Need-add-t13
 add-second c =
-    let b = c .before .before .before .before .before .before in
+    let b = c .before .before .before .before .before in
     simp (plain _ (before b .second), plain _ (second-fits b)) (after b .second)
 
 count : tie.Need-returns-2
 count c =
-    let e = c .before .before .before .before .before in
-    let b = e .before in
-    simp (
-      row b,
-      is _ _ (key1-fits b) (start b .fits .one) (e .if1 .left),
+    let b = c .before .before .before .before .before in
+    let a = start b .args in
+    rw (tallied-own (a .session) (a .one) (a .x) (a .tally) (own (shows b .before)) (row b))
+    (simp (
       plain _ (before b .first),
       plain _ (before b .second),
       plain _ (first-fits b),
@@ -80,15 +83,15 @@ count c =
       plain _ (after b .first),
       plain _ (after b .second),
       add-one,
-    )
+    ))
 
 none : tie.Need-returns-3
-none c = let a = c .before .before .before .args in ap (λ r. tallied (a .one) r (a .tally)) (sym (c .enum-told .given .1) ∙ seen (c .before .before))
+none c = let a = c .before .before .before .before .before .args in ap (λ r. tallied (a .one) r (a .tally)) (sym (c .enum-told .given .1) ∙ seen (c .before .before))
 
 refused : tie.Need-returns-4
-refused c = let a = c .before .before .before .args in ap (λ r. tallied (a .one) r (a .tally)) (sym (c .enum-told2 .given .1) ∙ seen (c .before .before))
+refused c = let a = c .before .before .before .before .before .args in ap (λ r. tallied (a .one) r (a .tally)) (sym (c .enum-told2 .given .1) ∙ seen (c .before .before))
 
 pub tally-slot-spec : {M : Type 1} → statement M
 tally-slot-spec =
     tie.close
-    (tie.spec (λ c κs. search needs) (λ c. search needs) other (λ c. search needs) add-first add-second (λ c. search needs) (λ c. search needs) count none refused)
+    (tie.spec other (λ c κs. search needs) (λ c. search needs) (λ c. search needs) add-first add-second (λ c. search needs) (λ c. search needs) count none refused)

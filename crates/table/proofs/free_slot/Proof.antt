@@ -7,7 +7,7 @@ use borrow.Author.Needs.{needs}
 use Rattle.laws.specs.Lowest.{lowest-only, below-next, found, exhausted}
 use Rattle.table.specs.Slots.{slotAt}
 use Rattle.table.specs.Free.{free}
-use Rattle.table.specs.FreeLaws.{freeSlot-is}
+use Rattle.table.specs.FreeLaws.{freeSlot-is, past-live}
 use Rattle.table.proofs.free_slot.Statement.{statement}
 use Rattle.table.proofs.free_slot.Tie as tie
 
@@ -17,21 +17,21 @@ Inv-loop table version slots place₀ place = (place ≤ slots) × ((j : ℕ) �
 abbrev μ-loop : tie.MeasureT-loop
 μ-loop table version slots place₀ place = slots - place
 
--- the test was that of the slot at the place
-tested : (c : tie.After-is-free Inv-loop μ-loop) → let l = c .before .before .before in
-    c .is-free .result ≡ free (slotAt (l .before .args .table .now) (l .loop .place)) (l .before .args .version)
-tested c = rw (c .before .slot-at .ensures) at (c .is-free .ensures)
-
 returns : tie.Need-returns Inv-loop μ-loop
 returns c =
     let b = c .before in
-    lowest-only (found (b .before .before .before .loop .inv .1) (omega arith) (sym (tested b) ∙ c .if1 .taken)) (freeSlot-is _ _)
+    lowest-only (found (b .before .before .before .before .loop .inv .1) (omega arith) (sym (b .free-at .ensures) ∙ c .if2 .taken)) (freeSlot-is _ _)
 
-loop-again : tie.Need-loop-again Inv-loop μ-loop
-loop-again c =
+four-again : tie.Need-loop-again Inv-loop μ-loop
+four-again c =
+    let f = c .before .four-live .ensures (c .if1 .taken) in
+    (omega (arith, f .room), past-live _ f (c .before .before .before .loop .inv .1))
+
+one-again : tie.Need-loop-again-2 Inv-loop μ-loop
+one-again c =
     let b = c .before in
-    let l = b .before .before .before in
-    (omega arith, below-next {p = λ j. free (slotAt (l .before .args .table .now) j) (l .before .args .version)} (l .loop .inv .1) (sym (tested b) ∙ c .if1 .left))
+    let l = b .before .before .before .before in
+    (omega arith, below-next {p = λ j. free (slotAt (l .before .args .table .now) j) (l .before .args .version)} (l .loop .inv .1) (sym (b .free-at .ensures) ∙ c .if2 .left))
 
 returns-2 : tie.Need-returns-2 Inv-loop μ-loop
 returns-2 c = lowest-only (exhausted (c .before .loop .inv .1) (omega arith)) (freeSlot-is _ _)
@@ -39,6 +39,6 @@ returns-2 c = lowest-only (exhausted (c .before .loop .inv .1) (omega arith)) (f
 pub free-slot-spec : {M : Type 1} → statement M
 free-slot-spec =
     tie.close
-    (tie.spec Inv-loop μ-loop (λ c. (omega arith, λ j h. absurd (omega arith)))
-    (λ c κs. c .before .before .pre .0) (λ c κs. c .before .before .before .pre .1)
-    returns (λ c. omega arith) (λ c. omega arith) loop-again returns-2)
+    (tie.spec Inv-loop μ-loop (λ c. (omega arith, λ j h. absurd (omega arith))) (λ c κs. search needs)
+    (λ c. omega (arith, c .before .four-live .ensures (c .if1 .taken) .room)) (λ c. omega arith) four-again
+    (λ c κs. search needs) returns (λ c. omega arith) (λ c. omega arith) one-again returns-2)

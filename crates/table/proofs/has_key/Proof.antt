@@ -19,18 +19,18 @@ use Rattle.table.proofs.has_key.Tie as tie
 room : (c : tie.Start) → Lengths (c .args .table .now)
 room c = lengths _ (c .pre .0)
 
-op : (c : tie.After-if12) → SFits w64 (word (c .before .args .table .now) (c .before .args .k * 8 + 1))
-op c = record { sfits = c .if12 .given }
+two : (c : tie.After-if12) → SFits w64 (word (c .before .args .table .now) (c .before .args .k * 8 + 3))
+two c = record { sfits = c .if12 .given }
 
 one : (c : tie.After-if22) → SFits w64 (word (c .before .before .before .args .table .now) (c .before .before .before .args .k * 8 + 2))
 one c = record { sfits = c .if22 .given }
 
-two : (c : tie.After-if32) → SFits w64 (word (c .before .before .before .before .before .args .table .now) (c .before .before .before .before .before .args .k * 8 + 3))
-two c = record { sfits = c .if32 .given }
+op : (c : tie.After-if32) → SFits w64 (word (c .before .before .before .before .before .args .table .now) (c .before .before .before .before .before .args .k * 8 + 1))
+op c = record { sfits = c .if32 .given }
 
 returns : tie.Need-returns
 unfolding hasKey slotAt
-returns c = sym (all-no _ 0 (ap not (is _ (pos 0) (op (c .before)) (search needs) (c .if1 .taken))))
+returns c = sym (all-no _ 2 (isnt _ _ (two (c .before)) (c .before .before .fits .two) (c .if1 .taken)))
 
 returns-2 : tie.Need-returns-2
 unfolding hasKey slotAt
@@ -38,7 +38,7 @@ returns-2 c = sym (all-no _ 1 (isnt _ _ (one (c .before)) (c .before .before .be
 
 returns-3 : tie.Need-returns-3
 unfolding hasKey slotAt
-returns-3 c = sym (all-no _ 2 (isnt _ _ (two (c .before)) (c .before .before .before .before .before .before .fits .two) (c .if3 .taken)))
+returns-3 c = sym (all-no _ 0 (ap not (is _ (pos 0) (op (c .before)) (search needs) (c .if3 .taken))))
 
 returns-4 : tie.Need-returns-4
 unfolding hasKey slotAt
@@ -46,10 +46,10 @@ returns-4 c =
     let d = c .before .before in
     let e = d .before .before in
     let f = e .before .before .fits in
-    let p = isnt _ (pos 0) (op (e .before)) (search needs) (e .if1 .left) in
+    let p = is _ _ (two (e .before)) (f .two) (e .if1 .left) in
     let q = is _ _ (one (d .before)) (f .one) (d .if2 .left) in
-    let r = is _ _ (two (c .before)) (f .two) (c .if3 .left) in
-    sym (all-yes _ (ap not p, (q, (r, tt))))
+    let r = isnt _ (pos 0) (op (c .before)) (search needs) (c .if3 .left) in
+    sym (all-yes _ (ap not r, (q, (p, tt))))
 
 pub has-key-spec : {M : Type 1} → statement M
 has-key-spec =

@@ -1,18 +1,17 @@
 -- `table::is_live` meets its contract. Assumes nothing.
-use lib.IntN.{pos}
+use mathlib.Core.Path.{sym, _∙_}
 use mir.Syntax.{w64}
 use mir.Val.{SFits}
 use borrow.Author.Needs.{needs}
-use Rattle.laws.specs.Bits.{eq-bits}
-use Rattle.table.specs.Operations.{live}
+use Rattle.laws.specs.Bits.{plain}
+use Rattle.table.specs.OperationLaws.{live-word}
 use Rattle.table.proofs.is_live.Statement.{statement}
 use Rattle.table.proofs.is_live.Tie as tie
 
 returns : tie.Need-returns
-unfolding live
 returns c =
-    let f : SFits w64 (c .before .args .x .operation) = search needs in
-    simp (eq-bits _ (pos 1) f (search needs), eq-bits _ (pos 2) f (search needs))
+    let f : SFits w64 (c .before .before .args .x .operation) = search needs in
+    (rw (plain _ f) at (c .lives .ensures)) ∙ sym (live-word _)
 
 pub is-live-spec : {M : Type 1} → statement M
-is-live-spec = tie.close (tie.spec returns)
+is-live-spec = tie.close (tie.spec (λ c κs. search needs) returns)

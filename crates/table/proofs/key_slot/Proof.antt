@@ -11,7 +11,7 @@ use Rattle.laws.specs.Lowest.{lowest-only, below-next, found, exhausted}
 use Rattle.table.specs.declared.Slot.{Slot}
 use Rattle.table.specs.Slots.{slotAt}
 use Rattle.table.specs.Keys.{hasKey}
-use Rattle.table.specs.KeyLaws.{keySlot-is}
+use Rattle.table.specs.KeyLaws.{keySlot-is, past-four}
 use Rattle.table.proofs.key_slot.Statement.{statement}
 use Rattle.table.proofs.key_slot.Tie as tie
 
@@ -27,14 +27,20 @@ plainly c x h = rw (plain _ (c .fits .one), plain _ (c .fits .two)) at h
 
 returns : tie.Need-returns Inv-loop μ-loop
 returns c =
-    let l = c .before .before .before in
+    let l = c .before .before .before .before .before in
     lowest-only
-    (found (λ j h. plainly (l .before) _ (l .loop .inv .1 j h)) (omega arith) (plainly (l .before) _ (sym (c .before .has-key .ensures) ∙ c .if1 .taken)))
+    (found (λ j h. plainly (l .before) _ (l .loop .inv .1 j h)) (omega arith) (plainly (l .before) _ (sym (c .before .has-key .ensures) ∙ c .if2 .taken)))
     (keySlot-is _ _ _)
 
-loop-again : tie.Need-loop-again Inv-loop μ-loop
-loop-again c =
-    (omega arith, below-next {p = λ j. hasKey (slotAt (c .before .before .before .before .args .table .now) j) _ _} (c .before .before .before .loop .inv .1) (sym (c .before .has-key .ensures) ∙ c .if1 .left))
+four-again : tie.Need-loop-again Inv-loop μ-loop
+four-again c =
+    let f = c .before .four-apart .ensures (c .if1 .taken) in
+    (omega (arith, f .room), past-four _ f (c .before .before .before .loop .inv .1))
+
+one-again : tie.Need-loop-again-2 Inv-loop μ-loop
+one-again c =
+    let l = c .before .before .before .before .before in
+    (omega arith, below-next {p = λ j. hasKey (slotAt (l .before .args .table .now) j) _ _} (l .loop .inv .1) (sym (c .before .has-key .ensures) ∙ c .if2 .left))
 
 returns-2 : tie.Need-returns-2 Inv-loop μ-loop
 returns-2 c = lowest-only (exhausted (λ j h. plainly (c .before .before) _ (c .before .loop .inv .1 j h)) (omega arith)) (keySlot-is _ _ _)
@@ -42,4 +48,6 @@ returns-2 c = lowest-only (exhausted (λ j h. plainly (c .before .before) _ (c .
 pub key-slot-spec : {M : Type 1} → statement M
 key-slot-spec =
     tie.close
-    (tie.spec Inv-loop μ-loop (λ c. (omega arith, λ j h. absurd (omega arith))) (λ c κs. search needs) returns (λ c. omega arith) (λ c. omega arith) loop-again returns-2)
+    (tie.spec Inv-loop μ-loop (λ c. (omega arith, λ j h. absurd (omega arith))) (λ c κs. search needs)
+    (λ c. omega (arith, c .before .four-apart .ensures (c .if1 .taken) .room)) (λ c. omega arith) four-again
+    (λ c κs. search needs) returns (λ c. omega arith) (λ c. omega arith) one-again returns-2)

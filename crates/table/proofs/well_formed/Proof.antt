@@ -1,12 +1,27 @@
--- `table::well_formed` meets its contract. Assumes nothing.
+-- `table::well_formed` meets its contract: its operation word says which of the two tests a slot can pass. Assumes nothing.
+use mathlib.Core.Path.{sym, _∙_}
+use lib.IntN.{pos}
+use mir.Syntax.{w64}
+use mir.Val.{SFits}
 use borrow.Author.Needs.{needs}
-use Rattle.table.specs.Formed.{wellFormed}
+use Rattle.laws.specs.Order.{eqZ-true}
+use Rattle.laws.specs.Bits.{is, isnt}
+use Rattle.table.specs.FormedLaws.{formed-empty, formed-used}
 use Rattle.table.proofs.well_formed.Statement.{statement}
 use Rattle.table.proofs.well_formed.Tie as tie
 
+fits : (c : tie.After-struct-told) → SFits w64 (c .before .args .x .operation)
+fits c = search needs
+
 returns : tie.Need-returns
-unfolding wellFormed
-returns c = simp (c .before .all-zeros .ensures, c .used-well .ensures)
+returns c =
+    let p = c .before in
+    c .all-zeros .ensures ∙ sym (formed-empty _ _ (eqZ-true _ _ (is _ (pos 0) (fits (p .before)) (search needs) (p .if1 .taken))))
+
+returns-2 : tie.Need-returns-2
+returns-2 c =
+    let p = c .before in
+    c .used-well .ensures ∙ sym (formed-used _ _ (isnt _ (pos 0) (fits (p .before)) (search needs) (p .if1 .left)))
 
 pub well-formed-spec : {M : Type 1} → statement M
-well-formed-spec = tie.close (tie.spec (λ c κs. search needs) (λ c κs. search needs) returns)
+well-formed-spec = tie.close (tie.spec (λ c κs. search needs) returns (λ c κs. search needs) returns-2)

@@ -1,0 +1,55 @@
+-- `table::four_apart` meets its contract: the four words that are read are the second key words of four slots, one after the
+-- other. Assumes nothing.
+use mathlib.Core.Path.{_≡_, refl, sym, _∙_}
+use mathlib.Core.Bool.{Bool, true, false, not}
+use mathlib.Core.List.{List, [], _∷_}
+use Prim.Native.Nat.{ℕ, _+_, _*_}
+use native.Mathlib.Omega.{arith}
+use lib.Dec.{eqb}
+use lib.IntN.{ℤ}
+use mir.Syntax.{w64}
+use mir.Val.{SFits, ofZ}
+use borrow.Author.Needs.{needs}
+use Rattle.laws.specs.Tests.{all, all-at, clash, not-yes}
+use Rattle.laws.specs.Order.{eqZ}
+use Rattle.laws.specs.Bits.{eq-bits}
+use Rattle.table.specs.Slots.{slotAt, word}
+use Rattle.table.proofs.four_apart.Statement.{statement}
+use Rattle.table.proofs.four_apart.Tie as tie
+
+-- the code's test of a word, and what it shows
+abbrev differs : List ℤ → ℕ → ℤ → Bool
+differs t i two = not (eqb (ofZ w64 (word t i)) (ofZ w64 two))
+
+other : (t : List ℤ) (i : ℕ) (two : ℤ) → SFits w64 (word t i) → SFits w64 two → differs t i two ≡ true → eqZ (word t i) two ≡ false
+other t i two f g h = sym (eq-bits (word t i) two f g) ∙ not-yes h
+
+returns-2 : tie.Need-returns-2
+unfolding all slotAt
+returns-2 c h =
+    let s = c .before .before .before .before .before in
+    let t = s .args .table .now in
+    let k = s .args .k in
+    let two = s .args .two in
+    let g = s .fits .two in
+    let tests = differs t (k * 8 + 3) two ∷ differs t (k * 8 + 11) two ∷ differs t (k * 8 + 19) two ∷ differs t (k * 8 + 27) two ∷ [] in
+    let second : (k + 1) * 8 + 3 ≡ k * 8 + 11 = omega arith in
+    let third : (k + 2) * 8 + 3 ≡ k * 8 + 19 = omega arith in
+    let fourth : (k + 3) * 8 + 3 ≡ k * 8 + 27 = omega arith in
+    record {
+      room = omega arith;
+      first = other t _ two (record { sfits = c .before .before .before .result .given }) g (all-at tests 0 h);
+      second = rw second (other t _ two (record { sfits = c .before .before .result2 .given }) g (all-at tests 1 h));
+      third = rw third (other t _ two (record { sfits = c .before .result3 .given }) g (all-at tests 2 h));
+      fourth = rw fourth (other t _ two (record { sfits = c .result4 .given }) g (all-at tests 3 h));
+    }
+
+pub four-apart-spec : {M : Type 1} → statement M
+four-apart-spec =
+    tie.close
+    (tie.spec (λ c. search needs) (λ c h. clash h refl) (λ c. search needs)
+    (λ c. search needs) (λ c. search needs) (λ c. search needs)
+    (λ c. search needs) (λ c. search needs) (λ c. search needs)
+    (λ c. search needs) (λ c. search needs) (λ c. search needs)
+    (λ c. search needs) (λ c. search needs) (λ c. search needs)
+    returns-2)

@@ -1,0 +1,12 @@
+-- `table::lives` meets its contract. Assumes nothing.
+use lib.IntN.{pos}
+use borrow.Author.Needs.{needs}
+use Rattle.laws.specs.Bits.{eq-bits}
+use Rattle.table.proofs.lives.Statement.{statement}
+use Rattle.table.proofs.lives.Tie as tie
+
+returns : tie.Need-returns
+returns c = simp (eq-bits _ (pos 1) (c .fits .operation) (search needs), eq-bits _ (pos 2) (c .fits .operation) (search needs))
+
+pub lives-spec : {M : Type 1} → statement M
+lives-spec = tie.close (tie.spec returns)
