@@ -1,9 +1,9 @@
 -- A decision table is a list of eight cell codes: a row for each result of a test, the row where the test holds first, and
 -- four operations to a row. Assumes nothing.
-use mathlib.Core.Bool.{Bool, true, false}
+use mathlib.Core.Path.{_≡_, refl}
+use mathlib.Core.Bool.{Bool, true, false, cond}
 use mathlib.Core.List.{List}
-use Prim.Native.Nat.{ℕ, _+_, _<_}
-use native.Mathlib.Omega.{arith}
+use Prim.Native.Nat.{ℕ, _+_}
 use lib.ListN.{getD}
 
 -- the columns of a decision table: empty, insert, update, delete
@@ -19,6 +19,7 @@ place false column = columns + column
 abbrev pub cellAt : List ℕ → Bool → ℕ → ℕ
 cellAt table row column = getD table (place row column) 0
 
-pub place-below : (row : Bool) (column : ℕ) → column < columns → place row column < columns + columns
-place-below true column h = omega arith
-place-below false column h = omega arith
+-- a column's cell is that of the first row or of the second
+pub of-rows : (table : List ℕ) (row : Bool) (column : ℕ) → cond row (getD table column 0) (getD table (columns + column) 0) ≡ cellAt table row column
+of-rows table true column = refl
+of-rows table false column = refl

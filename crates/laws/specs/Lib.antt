@@ -8,3 +8,4 @@ pub mod Stores
 pub mod Cells
 pub mod Repeats
 pub mod Digits
+pub mod Signs

@@ -11,5 +11,4 @@ pub mod LongLaws
 pub mod ReadBack
 pub mod WrittenLaws
 pub mod DecimalLaws
-pub mod SignLaws
 pub mod LineLaws

@@ -1,20 +1,11 @@
 -- `changes::cell_of` meets its contract: each column is read in the row of its cell, the first four cells where the test holds,
 -- the last four where it does not. Assumes nothing.
-use mathlib.Core.Path.{_≡_, refl, _∙_}
-use mathlib.Core.Bool.{Bool, true, false, cond}
-use mathlib.Core.List.{List}
-use Prim.Native.Nat.{ℕ, _+_}
+use mathlib.Core.Path.{_≡_, _∙_}
 use native.Mathlib.Omega.{arith}
-use lib.ListN.{getD}
 use borrow.Author.Needs.{needs}
-use Rattle.laws.specs.Cells.{columns, cellAt}
+use Rattle.laws.specs.Cells.{of-rows}
 use Rattle.changes.proofs.cell_of.Statement.{statement}
 use Rattle.changes.proofs.cell_of.Tie as tie
-
--- a column's cell, by the row
-of-rows : (cells : List ℕ) (older : Bool) (column : ℕ) → cond older (getD cells column 0) (getD cells (columns + column) 0) ≡ cellAt cells older column
-of-rows cells true column = refl
-of-rows cells false column = refl
 
 returns : tie.Need-returns
 returns c = let a = c .before .before .args in c .of-rows .ensures ∙ rw (c .before .match .keys1) (of-rows (a .t1) (a .older) 0)

@@ -8,14 +8,15 @@ use mir.Syntax.{w64}
 use mir.Val.{toZ, ofZ}
 use mir.ValLaws.{toZ-pos}
 use Rattle.laws.specs.Bits.{plain}
-use Rattle.lines.specs.SignLaws.{from-zero, BelowZero, below-zero}
+use Rattle.laws.specs.Signs.{from-zero, BelowZero, below-zero}
 use Rattle.lines.proofs.replies.magnitude.Statement.{statement}
 use Rattle.lines.proofs.replies.magnitude.Tie as tie
 
 cast-result : tie.Need-cast-result
 cast-result c =
     let f = c .before .fits .value in
-    rw (plain _ f) (from-zero _ f (rw (plain _ f) at (c .if1 .taken)))
+    let up = from-zero _ f (rw (plain _ f) at (c .if1 .taken)) in
+    rw (plain _ f) (up .positive, up .fits)
 
 returns : tie.Need-returns
 returns c = rw (plain _ (c .before .fits .value))

@@ -8,7 +8,7 @@ use mir.Syntax.{w64}
 use mir.Val.{toZ}
 use mir.ValLaws.{toZ-pos}
 use Rattle.laws.specs.Bits.{plain}
-use Rattle.words.specs.LongLaws.{FromZero, from-zero, BelowZero, below-zero}
+use Rattle.laws.specs.Signs.{FromZero, from-zero, BelowZero, below-zero}
 use Rattle.words.proofs.longs.bits_of.Statement.{statement}
 use Rattle.words.proofs.longs.bits_of.Tie as tie
 
