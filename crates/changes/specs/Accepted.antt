@@ -30,8 +30,8 @@ use Rattle.reads.specs.declared.Seen.the-variants.{Row, NoRow}
 use Rattle.reads.specs.Table1.{shown}
 use Rattle.reads.specs.Table1Laws.{shown-deleted, shown-empty}
 use Rattle.changes.specs.declared.Placed.{Placed}
-use Rattle.changes.specs.Tables.{inserted, updated, deleted}
-use Rattle.changes.specs.TableLaws.{inserted-new, inserted-older, inserted-same, updated-older, updated-same, deleted-older, deleted-insert, deleted-update}
+use Rattle.cells.specs.Tables.{inserted, updated, deleted}
+use Rattle.cells.specs.TableLaws.{inserted-new, inserted-older, inserted-same, updated-older, updated-same, deleted-older, deleted-insert, deleted-update}
 use Rattle.changes.specs.Effects.{Effect, run-within, save-effect, correct-effect, remove-effect, erase-effect, mark-effect, restore-effect, insert-effect}
 use Rattle.changes.specs.Whole.{Whole, Wrote, only}
 use Rattle.changes.specs.Insert.{insertSlot, insertRefusal, insertAnswer, insertWords}

@@ -13,7 +13,7 @@ use Rattle.table.specs.Formed.{broken}
 use Rattle.table.specs.Keys.{keySlot, keyed}
 use Rattle.changes.specs.declared.Placed.{Placed}
 use Rattle.changes.specs.declared.Placed.the-variants.{At, Refused}
-use Rattle.changes.specs.Tables.{deleted}
+use Rattle.cells.specs.Tables.{deleted}
 use Rattle.changes.specs.Update.{notLive}
 
 -- Delete: 1, 2, 8, 6, 11

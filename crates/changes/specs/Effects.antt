@@ -22,7 +22,7 @@ use Rattle.reads.specs.declared.Seen.{Seen}
 use Rattle.reads.specs.declared.Seen.the-variants.{Row, NoRow, Refused}
 use Rattle.reads.specs.Table1.{shown}
 use Rattle.reads.specs.Table1Laws.{shown-current, shown-deleted, shown-updated, shown-removed, shown-inserted, shown-empty}
-use Rattle.changes.specs.Tables.{newInsert, restored, saved, corrected, removed, marked}
+use Rattle.cells.specs.Tables.{newInsert, restored, saved, corrected, removed, marked}
 
 -- no row, or one with that key
 abbrev pub Own : ℤ → ℤ → Seen → Type 0

@@ -16,7 +16,7 @@ use Rattle.table.specs.Keys.{keySlot, keyed, keyLive}
 use Rattle.table.specs.Free.{freeSlot}
 use Rattle.changes.specs.declared.Placed.{Placed}
 use Rattle.changes.specs.declared.Placed.the-variants.{At, Refused}
-use Rattle.changes.specs.Tables.{inserted}
+use Rattle.cells.specs.Tables.{inserted}
 
 -- the slot that is written: the key's; where the key has none, the lowest that is all zeros, or is well formed and deleted
 -- by an older run

@@ -1,6 +1,3 @@
-pub mod Tables
-pub mod TableLaws
-pub mod NetEffect
 pub mod Effects
 pub mod Whole
 pub mod Accepted

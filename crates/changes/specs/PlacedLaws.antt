@@ -18,7 +18,7 @@ use Rattle.table.specs.Keys.{keySlot, keyed, keyLive}
 use Rattle.table.specs.KeyLaws.{live-keyed}
 use Rattle.changes.specs.declared.Placed.{Placed}
 use Rattle.changes.specs.declared.Placed.the-variants.{At, Refused}
-use Rattle.changes.specs.Tables.{changed, inserted, updated, deleted}
+use Rattle.cells.specs.Tables.{changed, inserted, updated, deleted}
 use Rattle.changes.specs.Running.{runningTests, Running}
 use Rattle.changes.specs.Insert.{insertSlot, noSlot, insertRefusal, insertAnswer, insertWords, Inserted}
 use Rattle.changes.specs.Update.{notLive, updateRefusal, updateAnswer, updateWords, Updated}

@@ -14,7 +14,7 @@ use Rattle.table.specs.Formed.{broken}
 use Rattle.table.specs.Keys.{keySlot, keyed, keyLive}
 use Rattle.changes.specs.declared.Placed.{Placed}
 use Rattle.changes.specs.declared.Placed.the-variants.{At, Refused}
-use Rattle.changes.specs.Tables.{updated}
+use Rattle.cells.specs.Tables.{updated}
 
 -- 11: key not live (deleted or absent)
 abbrev pub notLive : List ℤ → ℤ → ℤ → Bool

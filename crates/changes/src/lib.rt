@@ -5,17 +5,23 @@ ghost use mathlib.Core.Path.{_≡_};
 ghost use mathlib.Core.Bool.{false, cond};
 ghost use Prim.Native.Nat.{_<_};
 ghost use lib.Dec.{ltb};
-ghost use Rattle.laws.specs.Cells.{columns, cellAt};
-ghost use Rattle.version.specs.Record.{badRecord, runNumber};
-ghost use Rattle.table.specs.Slots.{badTable, slots, empty};
+ghost use Rattle.version.specs.Record.{badRecord};
+ghost use Rattle.table.specs.Slots.{badTable, slots};
 ghost use Rattle.table.specs.Formed.{broken};
 ghost use Rattle.table.specs.Free.{freeSlot};
-ghost use Rattle.changes.specs.Tables.{newInsert, restored, saved, corrected, removed, marked, written, changed};
 ghost use Rattle.changes.specs.Running.{runningRefusal};
 ghost use Rattle.changes.specs.Insert.{Inserted};
 ghost use Rattle.changes.specs.Update.{Updated};
 ghost use Rattle.changes.specs.Delete.{Deleted};
 ghost use Rattle.changes.specs.PlacedLaws.{givenRefusal, Leaves, RowAdded, RowChanged};
+use cells::CORRECT;
+use cells::ERASE;
+use cells::MARK;
+use cells::NEVER;
+use cells::NEW;
+use cells::REMOVE;
+use cells::RESTORE;
+use cells::SAVE;
 use table::Slot;
 use version::Version;
 
@@ -25,162 +31,12 @@ pub enum Placed {
     Refused(u32),
 }
 
-// The cells of the decision tables: what a change leaves of its slot, and what is impossible.
-const NEVER: u8 = 0;
-
-const NEW: u8 = 1;
-
-const RESTORE: u8 = 2;
-
-const SAVE: u8 = 3;
-
-const CORRECT: u8 = 4;
-
-const REMOVE: u8 = 5;
-
-const ERASE: u8 = 6;
-
-const MARK: u8 = 7;
-
 // A row for an older run, then a row for this run; to a row the columns empty, insert, update, delete.
-type Cells = [u8; 8];
+const TABLE_2: [u8; 8] = [NEW, NEVER, NEVER, NEW, NEVER, NEVER, NEVER, RESTORE];
 
-const TABLE_2: Cells = [NEW, NEVER, NEVER, NEW, NEVER, NEVER, NEVER, RESTORE];
+const TABLE_3: [u8; 8] = [NEVER, SAVE, SAVE, NEVER, NEVER, CORRECT, CORRECT, NEVER];
 
-const TABLE_3: Cells = [NEVER, SAVE, SAVE, NEVER, NEVER, CORRECT, CORRECT, NEVER];
-
-const TABLE_4: Cells = [NEVER, REMOVE, REMOVE, NEVER, NEVER, ERASE, MARK, NEVER];
-
-// The cell of the first row or of the second.
-fn of_rows(older: bool, first: u8, second: u8) -> u8
-    ensures { λ r. ⌜ r ≡ cond older first second ⌝ }
-{
-    if older { first } else { second }
-}
-
-// Each place is a constant, so that a table is read where the code is compiled and not while it runs.
-fn cell_of(cells: Cells, older: bool, column: usize) -> u8
-    requires { ⌜ column < columns ⌝ }
-    ensures { λ r. ⌜ r ≡ cellAt cells older column ⌝ }
-{
-    match column {
-        0 => of_rows(older, cells[0], cells[4]),
-        1 => of_rows(older, cells[1], cells[5]),
-        2 => of_rows(older, cells[2], cells[6]),
-        _ => of_rows(older, cells[3], cells[7]),
-    }
-}
-
-// What each cell leaves of a slot, a function a cell.
-fn new_insert(run: i64, one: i64, two: i64, first: i64, second: i64) -> Slot
-    ensures { λ r. ⌜ r ≡ newInsert run one two first second ⌝ }
-{
-    Slot {
-        run: run,
-        operation: table::INSERT,
-        key1: one,
-        key2: two,
-        current1: first,
-        current2: second,
-        old1: 0,
-        old2: 0,
-    }
-}
-
-fn restore(mut x: Slot, first: i64, second: i64) -> Slot
-    ensures { λ r. ⌜ r ≡ restored x first second ⌝ }
-{
-    x.operation = table::UPDATE;
-    x.current1 = first;
-    x.current2 = second;
-    x
-}
-
-fn save(run: i64, mut x: Slot, first: i64, second: i64) -> Slot
-    ensures { λ r. ⌜ r ≡ saved run x first second ⌝ }
-{
-    x.run = run;
-    x.operation = table::UPDATE;
-    x.old1 = x.current1;
-    x.old2 = x.current2;
-    x.current1 = first;
-    x.current2 = second;
-    x
-}
-
-fn correct(mut x: Slot, first: i64, second: i64) -> Slot
-    ensures { λ r. ⌜ r ≡ corrected x first second ⌝ }
-{
-    x.current1 = first;
-    x.current2 = second;
-    x
-}
-
-fn remove(run: i64, mut x: Slot) -> Slot
-    ensures { λ r. ⌜ r ≡ removed run x ⌝ }
-{
-    x.run = run;
-    x.operation = table::DELETE;
-    x.old1 = x.current1;
-    x.old2 = x.current2;
-    x
-}
-
-fn erased() -> Slot
-    ensures { λ r. ⌜ r ≡ empty ⌝ }
-{
-    Slot {
-        run: 0,
-        operation: 0,
-        key1: 0,
-        key2: 0,
-        current1: 0,
-        current2: 0,
-        old1: 0,
-        old2: 0,
-    }
-}
-
-fn mark(mut x: Slot) -> Slot
-    ensures { λ r. ⌜ r ≡ marked x ⌝ }
-{
-    x.operation = table::DELETE;
-    x
-}
-
-// What a cell leaves of a slot.
-fn write_cell(cell: u8, run: i64, x: Slot, one: i64, two: i64, first: i64, second: i64) -> Slot
-    ensures { λ r. ⌜ r ≡ written cell run x one two first second ⌝ }
-{
-    match cell {
-        NEW => new_insert(run, one, two, first, second),
-        RESTORE => restore(x, first, second),
-        SAVE => save(run, x, first, second),
-        CORRECT => correct(x, first, second),
-        REMOVE => remove(run, x),
-        ERASE => erased(),
-        MARK => mark(x),
-        _ => x,
-    }
-}
-
-// What the active run leaves of a slot by a decision table.
-fn change(
-    cells: Cells,
-    version: Version,
-    x: Slot,
-    one: i64,
-    two: i64,
-    first: i64,
-    second: i64,
-) -> Slot
-    requires { ⌜ badRecord version ≡ false ⌝ }
-    ensures { λ r. ⌜ r ≡ changed cells (runNumber version) x one two first second ⌝ }
-{
-    let run = version::run_number(version);
-    let cell = cell_of(cells, x.run < run, table::column_of(x));
-    write_cell(cell, run, x, one, two, first, second)
-}
+const TABLE_4: [u8; 8] = [NEVER, REMOVE, REMOVE, NEVER, NEVER, ERASE, MARK, NEVER];
 
 // The refusals that begin every change's: 1, 2, 8; 0 for none.
 fn running_refusal(table: &[i64], version: Version) -> u32
@@ -270,7 +126,7 @@ fn add_row(
     place(
         table,
         taken,
-        change(TABLE_2, version, x, one, two, first, second),
+        cells::change(TABLE_2, version, x, one, two, first, second),
     )
 }
 
@@ -278,7 +134,7 @@ fn add_row(
 fn change_row(
     table: &mut [i64],
     version: Version,
-    cells: Cells,
+    cells: [u8; 8],
     one: i64,
     two: i64,
     first: i64,
@@ -296,7 +152,11 @@ fn change_row(
     if !table::is_live(x) {
         return Placed::Refused(11);
     }
-    place(table, k, change(cells, version, x, one, two, first, second))
+    place(
+        table,
+        k,
+        cells::change(cells, version, x, one, two, first, second),
+    )
 }
 
 // Insert: 1, 2, 8, 13, 6, 10, 12.

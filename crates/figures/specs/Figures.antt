@@ -21,7 +21,7 @@ use Rattle.reads.specs.Table1.{shown}
 use Rattle.reads.specs.ReadSlot.{readSlotRefusal, readSlotAnswer}
 use Rattle.reads.specs.ReadKey.{readKeyRefusal, readKeyAnswer}
 use Rattle.reads.specs.RollUp.{rollUpRefusal, rollUpAnswer}
-use Rattle.changes.specs.Tables.{changed}
+use Rattle.cells.specs.Tables.{changed}
 use Rattle.changes.specs.Insert.{insertRefusal, insertAnswer, insertWords}
 use Rattle.changes.specs.Update.{updateRefusal, updateAnswer, updateWords}
 use Rattle.changes.specs.Delete.{deleteRefusal, deleteAnswer, deleteWords}

@@ -7,7 +7,7 @@ use Rattle.table.specs.declared.Slot.{Slot}
 use Rattle.table.specs.Slots.{empty}
 use Rattle.table.specs.Operations.{insertOperation, updateOperation, deleteOperation, live}
 use Rattle.table.specs.OperationLaws.{live-cases, column-empty, column-insert, column-update, column-delete}
-use Rattle.changes.specs.Tables.{newInsert, restored, saved, corrected, removed, marked, changed, inserted, updated, deleted}
+use Rattle.cells.specs.Tables.{newInsert, restored, saved, corrected, removed, marked, changed, inserted, updated, deleted}
 
 -- ---- insert. No slot for the key; key's slot deleted, older run; deleted by this run
 pub inserted-new : (m one two a b : ℤ) → ltZ (pos 0) m ≡ true → inserted m empty one two a b ≡ newInsert m one two a b

@@ -10,8 +10,8 @@ use Rattle.table.specs.declared.Slot.{Slot}
 use Rattle.table.specs.Slots.{empty}
 use Rattle.table.specs.Operations.{live}
 use Rattle.table.specs.OperationLaws.{live-insert, live-update}
-use Rattle.changes.specs.Tables.{newInsert, saved, removed, inserted, updated, deleted}
-use Rattle.changes.specs.TableLaws.{inserted-same, updated-older, updated-same, deleted-older, deleted-insert}
+use Rattle.cells.specs.Tables.{newInsert, saved, removed, inserted, updated, deleted}
+use Rattle.cells.specs.TableLaws.{inserted-same, updated-older, updated-same, deleted-older, deleted-insert}
 
 -- a slot of run m is not of an older run
 this-run : (m : ℤ) → ltZ m m ≡ false

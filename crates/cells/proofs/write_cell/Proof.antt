@@ -1,4 +1,4 @@
--- `changes::write_cell` meets its contract: an arm is the definition at its cell, by what the arm's function ensures; at any other
+-- `cells::write_cell` meets its contract: an arm is the definition at its cell, by what the arm's function ensures; at any other
 -- cell, which is impossible or past the end of the definition's list, the slot stays. Assumes nothing.
 use mathlib.Core.Path.{_≡_}
 use Prim.Native.Nat.{ℕ, _+_, _-_, _≤_, zero-le}
@@ -11,9 +11,9 @@ use borrow.Author.Tests.{eqb-true, eqb-false}
 use Rattle.laws.specs.Tests.{by-test}
 use Rattle.laws.specs.Bits.{plain}
 use Rattle.table.specs.declared.Slot.{Slot}
-use Rattle.changes.specs.Tables.{impossible, written}
-use Rattle.changes.proofs.write_cell.Statement.{statement}
-use Rattle.changes.proofs.write_cell.Tie as tie
+use Rattle.cells.specs.Tables.{impossible, written}
+use Rattle.cells.proofs.write_cell.Statement.{statement}
+use Rattle.cells.proofs.write_cell.Tie as tie
 
 inserts : tie.Need-returns
 inserts c =

@@ -1,11 +1,11 @@
--- `changes::cell_of` meets its contract: each column is read in the row of its cell, the first four cells where the test holds,
+-- `cells::cell_of` meets its contract: each column is read in the row of its cell, the first four cells where the test holds,
 -- the last four where it does not. Assumes nothing.
 use mathlib.Core.Path.{_≡_, _∙_}
 use native.Mathlib.Omega.{arith}
 use borrow.Author.Needs.{needs}
 use Rattle.laws.specs.Cells.{of-rows}
-use Rattle.changes.proofs.cell_of.Statement.{statement}
-use Rattle.changes.proofs.cell_of.Tie as tie
+use Rattle.cells.proofs.cell_of.Statement.{statement}
+use Rattle.cells.proofs.cell_of.Tie as tie
 
 returns : tie.Need-returns
 returns c = let a = c .before .before .args in c .of-rows .ensures ∙ rw (c .before .match .keys1) (of-rows (a .t1) (a .older) 0)

@@ -1,4 +1,4 @@
--- `changes::change` meets its contract: the cell that was looked up is the definition's, and what is written is what the cell
+-- `cells::change` meets its contract: the cell that was looked up is the definition's, and what is written is what the cell
 -- leaves of the words that were given. Assumes nothing.
 use mathlib.Core.Path.{_≡_, _∙_}
 use Prim.Native.Nat.{ℕ}
@@ -9,9 +9,9 @@ use borrow.Author.Needs.{needs}
 use Rattle.laws.specs.Bits.{plain}
 use Rattle.table.specs.declared.Slot.{Slot}
 use Rattle.table.specs.OperationLaws.{column-below}
-use Rattle.changes.specs.Tables.{written, changed}
-use Rattle.changes.proofs.change.Statement.{statement}
-use Rattle.changes.proofs.change.Tie as tie
+use Rattle.cells.specs.Tables.{written, changed}
+use Rattle.cells.proofs.change.Statement.{statement}
+use Rattle.cells.proofs.change.Tie as tie
 
 written-same : (x : Slot) {cell cell′ : ℕ} {m m′ one one′ two two′ a a′ b b′ : ℤ}
     → cell ≡ cell′ → m ≡ m′ → one ≡ one′ → two ≡ two′ → a ≡ a′ → b ≡ b′ → written cell m x one two a b ≡ written cell′ m′ x one′ two′ a′ b′
