@@ -21,10 +21,10 @@ use Rattle.table.specs.OperationLaws.{live-cases}
 use Rattle.table.specs.TotalLaws.{Given, given}
 use Rattle.table.specs.Formed.{wellFormed}
 use Rattle.table.specs.FormedLaws.{Used, live-used, formed-cases, dead-deleted}
-use Rattle.table.specs.Keys.{hasKey, keySlot, keyed}
-use Rattle.table.specs.KeyLaws.{Keyed, has-key, keySlot-is, empty-keyless, absent-empty, absent-nowhere, live-placed}
-use Rattle.table.specs.Free.{free, freeSlot}
-use Rattle.table.specs.FreeLaws.{freeSlot-is, free-cases}
+use Rattle.searches.specs.Keys.{hasKey, keySlot, keyed}
+use Rattle.searches.specs.KeyLaws.{Keyed, has-key, keySlot-is, empty-keyless, absent-empty, absent-nowhere, live-placed}
+use Rattle.searches.specs.Free.{free, freeSlot}
+use Rattle.searches.specs.FreeLaws.{freeSlot-is, free-cases}
 use Rattle.reads.specs.declared.Seen.{Seen}
 use Rattle.reads.specs.declared.Seen.the-variants.{Row, NoRow}
 use Rattle.reads.specs.Table1.{shown}

@@ -17,7 +17,7 @@ use Rattle.table.specs.OperationLaws.{live-cases, live-insert, live-update, liv
 use Rattle.table.specs.TotalLaws.{Given, lawful-zero}
 use Rattle.table.specs.Formed.{wellFormed}
 use Rattle.table.specs.FormedLaws.{Used, used-formed, empty-formed}
-use Rattle.table.specs.KeyLaws.{Keyed}
+use Rattle.searches.specs.KeyLaws.{Keyed}
 use Rattle.reads.specs.declared.Seen.{Seen}
 use Rattle.reads.specs.declared.Seen.the-variants.{Row, NoRow, Refused}
 use Rattle.reads.specs.Table1.{shown}

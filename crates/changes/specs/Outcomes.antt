@@ -8,7 +8,7 @@ use lib.IntN.{ℤ}
 use Rattle.laws.specs.Tests.{not-no}
 use Rattle.laws.specs.First.{none}
 use Rattle.version.specs.declared.Version.{Version}
-use Rattle.table.specs.Keys.{keySlot}
+use Rattle.searches.specs.Keys.{keySlot}
 use Rattle.changes.specs.declared.Placed.{Placed}
 use Rattle.changes.specs.declared.Placed.the-variants.{At, Refused}
 use Rattle.changes.specs.Insert.{insertSlot, insertRefusal, insertAnswer, insertWords}

@@ -14,8 +14,8 @@ use Rattle.table.specs.declared.Slot.{Slot}
 use Rattle.table.specs.Slots.{badTable, putSlot}
 use Rattle.table.specs.Totals.{unlawful}
 use Rattle.table.specs.Formed.{broken}
-use Rattle.table.specs.Keys.{keySlot, keyed, keyLive}
-use Rattle.table.specs.KeyLaws.{live-keyed}
+use Rattle.searches.specs.Keys.{keySlot, keyed, keyLive}
+use Rattle.searches.specs.KeyLaws.{live-keyed}
 use Rattle.changes.specs.declared.Placed.{Placed}
 use Rattle.changes.specs.declared.Placed.the-variants.{At, Refused}
 use Rattle.cells.specs.Tables.{changed, inserted, updated, deleted}

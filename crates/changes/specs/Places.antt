@@ -12,7 +12,7 @@ use Rattle.laws.specs.First.{none}
 use Rattle.version.specs.declared.Version.{Version}
 use Rattle.table.specs.Slots.{badTable, slots}
 use Rattle.table.specs.SlotLaws.{lengths}
-use Rattle.table.specs.KeyLaws.{live-placed}
+use Rattle.searches.specs.KeyLaws.{live-placed}
 use Rattle.changes.specs.declared.Placed.{Placed}
 use Rattle.changes.specs.declared.Placed.the-variants.{At, Refused}
 use Rattle.changes.specs.Insert.{insertRefusal, insertAnswer}

@@ -22,9 +22,9 @@ use Rattle.table.specs.Operations.{live}
 use Rattle.table.specs.Totals.{unlawful}
 use Rattle.table.specs.Formed.{wellFormed}
 use Rattle.table.specs.FormedLaws.{dead-deleted}
-use Rattle.table.specs.Keys.{keySlot, keyLive}
-use Rattle.table.specs.Free.{free, freeSlot}
-use Rattle.table.specs.FreeLaws.{freeSlot-is, busy}
+use Rattle.searches.specs.Keys.{keySlot, keyLive}
+use Rattle.searches.specs.Free.{free, freeSlot}
+use Rattle.searches.specs.FreeLaws.{freeSlot-is, busy}
 use Rattle.reads.specs.Table1.{shown, currentRow, oldRow}
 use Rattle.reads.specs.Table1Laws.{shown-current, shown-removed}
 use Rattle.changes.specs.Effects.{run-within}

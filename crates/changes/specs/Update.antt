@@ -11,7 +11,7 @@ use Rattle.version.specs.Record.{badRecord, idle, runNumber}
 use Rattle.table.specs.Slots.{badTable, putSlot}
 use Rattle.table.specs.Totals.{unlawful}
 use Rattle.table.specs.Formed.{broken}
-use Rattle.table.specs.Keys.{keySlot, keyed, keyLive}
+use Rattle.searches.specs.Keys.{keySlot, keyed, keyLive}
 use Rattle.changes.specs.declared.Placed.{Placed}
 use Rattle.changes.specs.declared.Placed.the-variants.{At, Refused}
 use Rattle.cells.specs.Tables.{updated}

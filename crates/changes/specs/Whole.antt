@@ -14,8 +14,8 @@ use Rattle.table.specs.declared.Slot.{Slot}
 use Rattle.table.specs.Slots.{badTable, slots, slotAt, putSlot}
 use Rattle.table.specs.SlotLaws.{put-same, put-other, put-sound}
 use Rattle.table.specs.Formed.{wellFormed}
-use Rattle.table.specs.Keys.{hasKey}
-use Rattle.table.specs.KeyLaws.{has-key, empty-keyless}
+use Rattle.searches.specs.Keys.{hasKey}
+use Rattle.searches.specs.KeyLaws.{has-key, empty-keyless}
 use Rattle.reads.specs.declared.Seen.{Seen}
 use Rattle.changes.specs.Effects.{Effect}
 

@@ -8,7 +8,7 @@ ghost use lib.Dec.{ltb};
 ghost use Rattle.version.specs.Record.{badRecord};
 ghost use Rattle.table.specs.Slots.{badTable, slots};
 ghost use Rattle.table.specs.Formed.{broken};
-ghost use Rattle.table.specs.Free.{freeSlot};
+ghost use Rattle.searches.specs.Free.{freeSlot};
 ghost use Rattle.changes.specs.Running.{runningRefusal};
 ghost use Rattle.changes.specs.Insert.{Inserted};
 ghost use Rattle.changes.specs.Update.{Updated};
@@ -95,7 +95,7 @@ fn slot_to_take(table: &[i64], version: Version, k: usize) -> usize
     if k < table.len() / table::SLOT_WORDS {
         return k;
     }
-    table::free_slot(table, version)
+    searches::free_slot(table, version)
 }
 
 // An insert past 13: 6, 10, 12, and the write by Table 2.
@@ -111,7 +111,7 @@ fn add_row(
     requires { ⌜ badRecord version ≡ false ⌝ }
     ensures { λ r. ⌜ RowAdded (now (table .entry)) version one two first second r (now (table .exit)) ⌝ }
 {
-    let k = table::key_slot(table, one, two);
+    let k = searches::key_slot(table, one, two);
     let x = table::slot_at(table, k);
     if is_broken(x, version) {
         return Placed::Refused(6);
@@ -144,7 +144,7 @@ fn change_row(
     requires { ⌜ badRecord version ≡ false ⌝ }
     ensures { λ r. ⌜ RowChanged cells (now (table .entry)) version one two first second r (now (table .exit)) ⌝ }
 {
-    let k = table::key_slot(table, one, two);
+    let k = searches::key_slot(table, one, two);
     let x = table::slot_at(table, k);
     if is_broken(x, version) {
         return Placed::Refused(6);

@@ -15,8 +15,8 @@ use Rattle.table.specs.Slots.{badTable, slotAt, putSlot}
 use Rattle.table.specs.Operations.{column, live}
 use Rattle.table.specs.Totals.{lawful, unlawful}
 use Rattle.table.specs.Formed.{allZeros, totalsLawful, usedWell, wellFormed, anyBroken}
-use Rattle.table.specs.Keys.{hasKey, keySlot}
-use Rattle.table.specs.Free.{longDeleted, free, freeSlot}
+use Rattle.searches.specs.Keys.{hasKey, keySlot}
+use Rattle.searches.specs.Free.{longDeleted, free, freeSlot}
 use Rattle.reads.specs.declared.Seen.the-variants as seen
 use Rattle.reads.specs.declared.Rolled.the-variants as rolled
 use Rattle.reads.specs.Table1.{shown}

@@ -15,8 +15,8 @@ use Rattle.version.specs.Sessions.{unborn, expired}
 use Rattle.version.specs.SessionLaws.{born, expires, lastBegun}
 use Rattle.table.specs.Slots.{slots, slotAt}
 use Rattle.table.specs.FormedLaws.{all-formed}
-use Rattle.table.specs.Keys.{keySlot, keyed}
-use Rattle.table.specs.KeyLaws.{keySlot-is, has-key, absent-nowhere, absent-empty}
+use Rattle.searches.specs.Keys.{keySlot, keyed}
+use Rattle.searches.specs.KeyLaws.{keySlot-is, has-key, absent-nowhere, absent-empty}
 use Rattle.reads.specs.declared.Seen.the-variants as seen
 use Rattle.reads.specs.Table1.{shown}
 use Rattle.reads.specs.Table1Laws.{shown-empty}

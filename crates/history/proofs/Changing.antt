@@ -17,8 +17,8 @@ use Rattle.table.specs.Operations.{live}
 use Rattle.table.specs.OperationLaws.{dead-empty}
 use Rattle.table.specs.Totals.{unlawful}
 use Rattle.table.specs.FormedLaws.{Used, dead-deleted}
-use Rattle.table.specs.Keys.{keySlot, keyLive}
-use Rattle.table.specs.KeyLaws.{Keyed, has-key, keySlot-is, absent-empty, absent-nowhere}
+use Rattle.searches.specs.Keys.{keySlot, keyLive}
+use Rattle.searches.specs.KeyLaws.{Keyed, has-key, keySlot-is, absent-empty, absent-nowhere}
 use Rattle.reads.specs.Table1.{shown}
 use Rattle.reads.specs.Table1Laws.{shown-current, shown-deleted}
 use Rattle.changes.specs.declared.Placed.the-variants as placed

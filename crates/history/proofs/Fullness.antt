@@ -20,9 +20,9 @@ use Rattle.version.specs.declared.Version.{Version}
 use Rattle.version.specs.Record.{runNumber}
 use Rattle.table.specs.Slots.{slots, slotAt}
 use Rattle.table.specs.Operations.{emptyOperation}
-use Rattle.table.specs.Keys.{keySlot}
-use Rattle.table.specs.KeyLaws.{has-key, keyed-has, keySlot-is, absent-nowhere}
-use Rattle.table.specs.Free.{free}
+use Rattle.searches.specs.Keys.{keySlot}
+use Rattle.searches.specs.KeyLaws.{has-key, keyed-has, keySlot-is, absent-nowhere}
+use Rattle.searches.specs.Free.{free}
 use Rattle.reads.specs.declared.Seen.{Seen}
 use Rattle.reads.specs.declared.Seen.the-variants as seen
 use Rattle.reads.specs.Table1.{shown}

@@ -26,7 +26,7 @@ use Rattle.version.specs.RunLaws.{can-begin, can-commit, begun-sound, committed
 use Rattle.table.specs.Slots.{slotWords, slots, slotAt, empty, freshTable}
 use Rattle.table.specs.SlotLaws.{put-length, fresh-slots, fresh-shape, fresh-slot}
 use Rattle.table.specs.FormedLaws.{formed-cases, formed-later, empty-formed}
-use Rattle.table.specs.KeyLaws.{empty-keyless}
+use Rattle.searches.specs.KeyLaws.{empty-keyless}
 use Rattle.reads.specs.declared.Seen.{Seen}
 use Rattle.reads.specs.declared.Seen.the-variants as seen
 use Rattle.reads.specs.Table1.{shown}

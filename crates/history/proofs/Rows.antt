@@ -13,8 +13,8 @@ use Rattle.laws.specs.Tests.{by-test}
 use Rattle.laws.specs.Order.{eqZ}
 use Rattle.table.specs.declared.Slot.{Slot}
 use Rattle.table.specs.Slots.{slotAt}
-use Rattle.table.specs.Keys.{hasKey}
-use Rattle.table.specs.KeyLaws.{key-words, Keyed, keyed-has}
+use Rattle.searches.specs.Keys.{hasKey}
+use Rattle.searches.specs.KeyLaws.{key-words, Keyed, keyed-has}
 use Rattle.reads.specs.declared.Seen.{Seen}
 use Rattle.reads.specs.declared.Seen.the-variants as seen
 use Rattle.reads.specs.Table1.{shown, currentRow, oldRow}

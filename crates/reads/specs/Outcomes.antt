@@ -12,7 +12,7 @@ use Rattle.version.specs.Record.{badRecord}
 use Rattle.version.specs.Sessions.{unborn, expired}
 use Rattle.table.specs.Slots.{badTable, slots, slotAt}
 use Rattle.table.specs.Formed.{wellFormed, anyBroken}
-use Rattle.table.specs.Keys.{keyed}
+use Rattle.searches.specs.Keys.{keyed}
 use Rattle.reads.specs.declared.Seen.the-variants.{Refused}
 use Rattle.reads.specs.declared.Rolled.the-variants as rolled
 use Rattle.reads.specs.Table1.{shown}

@@ -10,7 +10,7 @@ use Rattle.version.specs.Record.{badRecord}
 use Rattle.version.specs.Sessions.{unborn, expired}
 use Rattle.table.specs.Slots.{badTable}
 use Rattle.table.specs.Formed.{broken}
-use Rattle.table.specs.Keys.{keyed}
+use Rattle.searches.specs.Keys.{keyed}
 use Rattle.reads.specs.declared.Seen.{Seen}
 use Rattle.reads.specs.declared.Seen.the-variants.{Refused}
 use Rattle.reads.specs.Table1.{shown}

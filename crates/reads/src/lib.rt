@@ -169,7 +169,7 @@ pub fn read_key(table: &[i64], version: Version, session: i64, one: i64, two: i6
     if refusal != 0 {
         return Seen::Refused(refusal);
     }
-    let k = table::key_slot(table, one, two);
+    let k = searches::key_slot(table, one, two);
     if k >= table.len() / table::SLOT_WORDS {
         return Seen::NoRow;
     }

@@ -6,8 +6,4 @@ pub mod Totals
 pub mod TotalLaws
 pub mod Formed
 pub mod FormedLaws
-pub mod Keys
-pub mod KeyLaws
-pub mod Free
-pub mod FreeLaws
 pub mod Fits

@@ -54,6 +54,19 @@ word-at t k (suc (suc (suc (suc (suc (suc zero)))))) h = refl
 word-at t k (suc (suc (suc (suc (suc (suc (suc zero))))))) h = refl
 word-at t k (suc (suc (suc (suc (suc (suc (suc (suc n)))))))) h = absurd (omega arith)
 
+-- the words that the searches read
+pub operation-at : (t : List ℤ) (k : ℕ) → slotAt t k .operation ≡ word t (k * slotWords + 1)
+unfolding slotAt
+operation-at t k = refl
+
+pub key1-at : (t : List ℤ) (k : ℕ) → slotAt t k .key1 ≡ word t (k * slotWords + 2)
+unfolding slotAt
+key1-at t k = refl
+
+pub key2-at : (t : List ℤ) (k : ℕ) → slotAt t k .key2 ≡ word t (k * slotWords + 3)
+unfolding slotAt
+key2-at t k = refl
+
 -- ---- a slot past the end is empty
 pub slotAt-past : (t : List ℤ) (k : ℕ) → badTable t ≡ false → slots t ≤ k → slotAt t k ≡ empty
 slotAt-past t k h l = by-words (λ n b. word-at t k n b ∙ past n ∙ sym (getD-replicate slotWords n (pos 0) (pos 0) b))

@@ -8,7 +8,7 @@ use borrow.Author.Tests.{lt-ltb, le-ltb}
 use Rattle.laws.specs.First.{skip, hit, done}
 use Rattle.laws.specs.Bits.{plain}
 use Rattle.table.specs.Formed.{broken}
-use Rattle.table.specs.Keys.{keySlot, keyed, keyLive}
+use Rattle.searches.specs.Keys.{keySlot, keyed, keyLive}
 use Rattle.changes.specs.Insert.{insertSlot}
 use Rattle.changes.specs.PlacedLaws.{refused, passed}
 use Rattle.changes.proofs.add_row.Statement.{statement}

@@ -8,8 +8,8 @@ use Rattle.laws.specs.Tests.{not-no}
 use Rattle.laws.specs.First.{skip, hit}
 use Rattle.laws.specs.Bits.{plain}
 use Rattle.table.specs.Formed.{broken}
-use Rattle.table.specs.Keys.{keySlot, keyed}
-use Rattle.table.specs.KeyLaws.{live-placed}
+use Rattle.searches.specs.Keys.{keySlot, keyed}
+use Rattle.searches.specs.KeyLaws.{live-placed}
 use Rattle.changes.specs.Update.{notLive}
 use Rattle.changes.specs.PlacedLaws.{refused, row-changed}
 use Rattle.changes.proofs.change_row.Statement.{statement}

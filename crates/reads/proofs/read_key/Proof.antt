@@ -8,7 +8,7 @@ use Rattle.laws.specs.First.{first, after, unless-refused, unless-done, skip, d
 use Rattle.table.specs.Slots.{empty}
 use Rattle.table.specs.SlotLaws.{slotAt-past}
 use Rattle.table.specs.FormedLaws.{empty-formed}
-use Rattle.table.specs.Keys.{keySlot, keyed}
+use Rattle.searches.specs.Keys.{keySlot, keyed}
 use Rattle.reads.specs.declared.Seen.the-variants.{Refused}
 use Rattle.reads.specs.Session.{sessionTests, sessionRefusal, Open, opened}
 use Rattle.reads.specs.Table1Laws.{shown-empty}

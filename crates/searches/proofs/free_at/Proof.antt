@@ -1,22 +1,25 @@
--- `table::free_at` meets its contract: a live slot is not free, and of any other the test is `is_free`. Assumes nothing.
+-- `searches::free_at` meets its contract: a live slot is not free, and of any other the test is `is_free`. Assumes nothing.
 use mathlib.Core.Path.{sym, _∙_}
 use Prim.Native.Nat.{_+_, _*_}
 use mir.Syntax.{w64}
 use mir.Val.{SFits}
 use borrow.Author.Needs.{needs}
 use Rattle.laws.specs.Bits.{plain}
-use Rattle.table.specs.Slots.{slotAt, word}
+use Rattle.table.specs.Slots.{word}
+use Rattle.table.specs.SlotLaws.{operation-at}
 use Rattle.table.specs.OperationLaws.{live-word}
-use Rattle.table.specs.FreeLaws.{live-kept}
-use Rattle.table.proofs.free_at.Statement.{statement}
-use Rattle.table.proofs.free_at.Tie as tie
+use Rattle.searches.specs.FreeLaws.{live-kept}
+use Rattle.searches.proofs.free_at.Statement.{statement}
+use Rattle.searches.proofs.free_at.Tie as tie
 
 fits : (c : tie.After-lives-arg) → SFits w64 (word (c .before .args .table .now) (c .before .args .k * 8 + 1))
 fits c = record { sfits = c .lives-arg .given }
 
 returns : tie.Need-returns
-unfolding slotAt
-returns c = let b = c .before in sym (live-kept _ _ (live-word _ ∙ sym (rw (plain _ (fits (b .before))) at (b .lives .ensures)) ∙ c .if1 .taken))
+returns c =
+    let b = c .before in
+    let a = b .before .before .args in
+    sym (live-kept _ _ (live-word _ ∙ rw (operation-at (a .table .now) (a .k)) (sym (rw (plain _ (fits (b .before))) at (b .lives .ensures)) ∙ c .if1 .taken)))
 
 pub free-at-spec : {M : Type 1} → statement M
 free-at-spec =

@@ -11,12 +11,12 @@ use lib.IntN.{ℤ}
 use Rattle.laws.specs.Tests.{all, all-at, by-test, clash, not-yes, all-yes, all-no}
 use Rattle.laws.specs.Order.{eqZ, eqZ-true, eqZ-same}
 use Rattle.laws.specs.Lowest.{Lowest, lowest-is}
 use Rattle.table.specs.declared.Slot.{Slot}
 use Rattle.table.specs.Slots.{badTable, slots, slotAt, empty}
 use Rattle.table.specs.SlotLaws.{slotAt-past, four-more}
 use Rattle.table.specs.Operations.{emptyOperation}
 use Rattle.table.specs.OperationLaws.{dead-empty}
-use Rattle.table.specs.Keys.{hasKey, keySlot, keyed, keyLive}
+use Rattle.searches.specs.Keys.{hasKey, keySlot, keyed, keyLive}
 
 pub keySlot-is : (t : List ℤ) (one two : ℤ) → Lowest (λ k. hasKey (slotAt t k) one two) (slots t) (keySlot t one two)
 unfolding keySlot

@@ -1,4 +1,4 @@
--- `table::four_apart` meets its contract: the four words that are read are the second key words of four slots, one after the
+-- `searches::four_apart` meets its contract: the four words that are read are the second key words of four slots, one after the
 -- other. Assumes nothing.
 use mathlib.Core.Path.{_≡_, refl, sym, _∙_}
 use mathlib.Core.Bool.{Bool, true, false, not}
@@ -13,9 +13,10 @@ use borrow.Author.Needs.{needs}
 use Rattle.laws.specs.Tests.{all, all-at, clash, not-yes}
 use Rattle.laws.specs.Order.{eqZ}
 use Rattle.laws.specs.Bits.{eq-bits}
-use Rattle.table.specs.Slots.{slotAt, word}
-use Rattle.table.proofs.four_apart.Statement.{statement}
-use Rattle.table.proofs.four_apart.Tie as tie
+use Rattle.table.specs.Slots.{word}
+use Rattle.table.specs.SlotLaws.{key2-at}
+use Rattle.searches.proofs.four_apart.Statement.{statement}
+use Rattle.searches.proofs.four_apart.Tie as tie
 
 -- the code's test of a word, and what it shows
 abbrev differs : List ℤ → ℕ → ℤ → Bool
@@ -25,7 +26,7 @@ other : (t : List ℤ) (i : ℕ) (two : ℤ) → SFits w64 (word t i) → SFits 
 other t i two f g h = sym (eq-bits (word t i) two f g) ∙ not-yes h
 
 returns-2 : tie.Need-returns-2
-unfolding all slotAt
+unfolding all
 returns-2 c h =
     let s = c .before .before .before .before .before in
     let t = s .args .table .now in
@@ -38,10 +39,10 @@ returns-2 c h =
     let fourth : (k + 3) * 8 + 3 ≡ k * 8 + 27 = omega arith in
     record {
       room = omega arith;
-      first = other t _ two (record { sfits = c .before .before .before .result .given }) g (all-at tests 0 h);
-      second = rw second (other t _ two (record { sfits = c .before .before .result2 .given }) g (all-at tests 1 h));
-      third = rw third (other t _ two (record { sfits = c .before .result3 .given }) g (all-at tests 2 h));
-      fourth = rw fourth (other t _ two (record { sfits = c .result4 .given }) g (all-at tests 3 h));
+      first = rw (key2-at t k) (other t _ two (record { sfits = c .before .before .before .result .given }) g (all-at tests 0 h));
+      second = rw (key2-at t (k + 1), second) (other t _ two (record { sfits = c .before .before .result2 .given }) g (all-at tests 1 h));
+      third = rw (key2-at t (k + 2), third) (other t _ two (record { sfits = c .before .result3 .given }) g (all-at tests 2 h));
+      fourth = rw (key2-at t (k + 3), fourth) (other t _ two (record { sfits = c .result4 .given }) g (all-at tests 3 h));
     }
 
 pub four-apart-spec : {M : Type 1} → statement M

@@ -1,8 +1,8 @@
--- `table::is_free` meets its contract. Assumes nothing.
+-- `searches::is_free` meets its contract. Assumes nothing.
 use borrow.Author.Needs.{needs}
-use Rattle.table.specs.Free.{free}
-use Rattle.table.proofs.is_free.Statement.{statement}
-use Rattle.table.proofs.is_free.Tie as tie
+use Rattle.searches.specs.Free.{free}
+use Rattle.searches.proofs.is_free.Statement.{statement}
+use Rattle.searches.proofs.is_free.Tie as tie
 
 returns : tie.Need-returns
 unfolding free

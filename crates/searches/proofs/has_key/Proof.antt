@@ -1,20 +1,22 @@
--- `table::has_key` meets its contract: three words of the slot are read, each only where the test before it passed.
+-- `searches::has_key` meets its contract: three words of the slot are read, each only where the test before it passed.
 -- Assumes nothing.
-use mathlib.Core.Path.{sym, ap}
+use mathlib.Core.Path.{_≡_, sym, ap, _∙_}
 use mathlib.Core.Bool.{not}
-use Prim.Native.Nat.{_+_, _*_}
+use mathlib.Core.List.{List, [], _∷_}
+use Prim.Native.Nat.{ℕ, _+_, _*_}
 use native.Mathlib.Omega.{arith}
-use lib.IntN.{pos}
+use lib.IntN.{ℤ, pos}
 use mir.Syntax.{w64}
 use mir.Val.{SFits}
 use borrow.Author.Needs.{needs}
-use Rattle.laws.specs.Tests.{all-no, all-yes}
+use Rattle.laws.specs.Tests.{all, all-no, all-yes}
+use Rattle.laws.specs.Order.{eqZ}
 use Rattle.laws.specs.Bits.{is, isnt}
 use Rattle.table.specs.Slots.{slotAt, word}
-use Rattle.table.specs.SlotLaws.{Lengths, lengths}
-use Rattle.table.specs.Keys.{hasKey}
-use Rattle.table.proofs.has_key.Statement.{statement}
-use Rattle.table.proofs.has_key.Tie as tie
+use Rattle.table.specs.SlotLaws.{Lengths, lengths, operation-at, key1-at, key2-at}
+use Rattle.searches.specs.Keys.{hasKey}
+use Rattle.searches.proofs.has_key.Statement.{statement}
+use Rattle.searches.proofs.has_key.Tie as tie
 
 room : (c : tie.Start) → Lengths (c .args .table .now)
 room c = lengths _ (c .pre .0)
@@ -28,20 +30,22 @@ one c = record { sfits = c .if22 .given }
 op : (c : tie.After-if32) → SFits w64 (word (c .before .before .before .before .before .args .table .now) (c .before .before .before .before .before .args .k * 8 + 1))
 op c = record { sfits = c .if32 .given }
 
+-- the key of a slot, by its words
+key : (t : List ℤ) (k : ℕ) (one two : ℤ) → hasKey (slotAt t k) one two
+    ≡ all (not (eqZ (word t (k * 8 + 1)) (pos 0)) ∷ eqZ (word t (k * 8 + 2)) one ∷ eqZ (word t (k * 8 + 3)) two ∷ [])
+unfolding hasKey
+key t k one two = rw (operation-at t k, key1-at t k, key2-at t k)
+
 returns : tie.Need-returns
-unfolding hasKey slotAt
-returns c = sym (all-no _ 2 (isnt _ _ (two (c .before)) (c .before .before .fits .two) (c .if1 .taken)))
+returns c = sym (key _ _ _ _ ∙ all-no _ 2 (isnt _ _ (two (c .before)) (c .before .before .fits .two) (c .if1 .taken)))
 
 returns-2 : tie.Need-returns-2
-unfolding hasKey slotAt
-returns-2 c = sym (all-no _ 1 (isnt _ _ (one (c .before)) (c .before .before .before .before .fits .one) (c .if2 .taken)))
+returns-2 c = sym (key _ _ _ _ ∙ all-no _ 1 (isnt _ _ (one (c .before)) (c .before .before .before .before .fits .one) (c .if2 .taken)))
 
 returns-3 : tie.Need-returns-3
-unfolding hasKey slotAt
-returns-3 c = sym (all-no _ 0 (ap not (is _ (pos 0) (op (c .before)) (search needs) (c .if3 .taken))))
+returns-3 c = sym (key _ _ _ _ ∙ all-no _ 0 (ap not (is _ (pos 0) (op (c .before)) (search needs) (c .if3 .taken))))
 
 returns-4 : tie.Need-returns-4
-unfolding hasKey slotAt
 returns-4 c =
     let d = c .before .before in
     let e = d .before .before in
@@ -49,7 +53,7 @@ returns-4 c =
     let p = is _ _ (two (e .before)) (f .two) (e .if1 .left) in
     let q = is _ _ (one (d .before)) (f .one) (d .if2 .left) in
     let r = isnt _ (pos 0) (op (c .before)) (search needs) (c .if3 .left) in
-    sym (all-yes _ (ap not r, (q, (p, tt))))
+    sym (key _ _ _ _ ∙ all-yes _ (ap not r, (q, (p, tt))))
 
 pub has-key-spec : {M : Type 1} → statement M
 has-key-spec =

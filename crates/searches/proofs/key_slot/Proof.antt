@@ -1,4 +1,4 @@
--- `table::key_slot` meets its contract: nothing below k has the key. Assumes nothing.
+-- `searches::key_slot` meets its contract: nothing below k has the key. Assumes nothing.
 use Prim.Native.Nat.{ℕ, _≤_, _<_, _-_}
 use mathlib.Core.Path.{_≡_, sym, _∙_}
 use mathlib.Core.Bool.{Bool, false}
@@ -8,12 +8,12 @@ use mir.Val.{toZ, ofZ}
 use borrow.Author.Needs.{needs}
 use Rattle.laws.specs.Bits.{plain}
 use Rattle.laws.specs.Lowest.{lowest-only, below-next, found, exhausted}
 use Rattle.table.specs.declared.Slot.{Slot}
 use Rattle.table.specs.Slots.{slotAt}
-use Rattle.table.specs.Keys.{hasKey}
-use Rattle.table.specs.KeyLaws.{keySlot-is, past-four}
-use Rattle.table.proofs.key_slot.Statement.{statement}
-use Rattle.table.proofs.key_slot.Tie as tie
+use Rattle.searches.specs.Keys.{hasKey}
+use Rattle.searches.specs.KeyLaws.{keySlot-is, past-four}
+use Rattle.searches.proofs.key_slot.Statement.{statement}
+use Rattle.searches.proofs.key_slot.Tie as tie
 
 abbrev Inv-loop : tie.InvT-loop
 Inv-loop table one two n k₀ k = (k ≤ n) × ((j : ℕ) → j < k → hasKey (slotAt table j) (toZ w64 one) (toZ w64 two) ≡ false)

@@ -1,4 +1,4 @@
--- `table::four_live` meets its contract: the four words that are read are the operation words of four slots, one after the
+-- `searches::four_live` meets its contract: the four words that are read are the operation words of four slots, one after the
 -- other. Assumes nothing.
 use mathlib.Core.Path.{_≡_, refl, sym, _∙_}
 use mathlib.Core.Bool.{Bool, true}
@@ -11,17 +11,18 @@ use mir.Val.{SFits, toZ, ofZ}
 use borrow.Author.Needs.{needs}
 use Rattle.laws.specs.Tests.{all, all-at, clash}
 use Rattle.laws.specs.Bits.{plain}
-use Rattle.table.specs.Slots.{slotAt, word}
+use Rattle.table.specs.Slots.{word}
+use Rattle.table.specs.SlotLaws.{operation-at}
 use Rattle.table.specs.OperationLaws.{liveWord, live-word}
-use Rattle.table.proofs.four_live.Statement.{statement}
-use Rattle.table.proofs.four_live.Tie as tie
+use Rattle.searches.proofs.four_live.Statement.{statement}
+use Rattle.searches.proofs.four_live.Tie as tie
 
 -- what the code's test of a word shows
 lives : (t : List ℤ) (i : ℕ) {r : Bool} → SFits w64 (word t i) → r ≡ liveWord (toZ w64 (ofZ w64 (word t i))) → r ≡ true → liveWord (word t i) ≡ true
 lives t i f e h = sym (rw (plain (word t i) f) at e) ∙ h
 
 returns-2 : tie.Need-returns-2
-unfolding all slotAt
+unfolding all
 returns-2 c h =
     let c3 = c .before .before in
     let c2 = c3 .before .before in
@@ -35,10 +36,10 @@ returns-2 c h =
     let fourth : (k + 3) * 8 + 1 ≡ k * 8 + 25 = omega arith in
     record {
       room = omega arith;
-      first = live-word _ ∙ lives t (k * 8 + 1) (record { sfits = c1 .before .lives-arg .given }) (c1 .lives .ensures) (all-at tests 0 h);
-      second = live-word _ ∙ rw second (lives t (k * 8 + 9) (record { sfits = c2 .before .lives-arg2 .given }) (c2 .lives2 .ensures) (all-at tests 1 h));
-      third = live-word _ ∙ rw third (lives t (k * 8 + 17) (record { sfits = c3 .before .lives-arg3 .given }) (c3 .lives3 .ensures) (all-at tests 2 h));
-      fourth = live-word _ ∙ rw fourth (lives t (k * 8 + 25) (record { sfits = c .before .lives-arg4 .given }) (c .lives4 .ensures) (all-at tests 3 h));
+      first = live-word _ ∙ rw (operation-at t k) (lives t (k * 8 + 1) (record { sfits = c1 .before .lives-arg .given }) (c1 .lives .ensures) (all-at tests 0 h));
+      second = live-word _ ∙ rw (operation-at t (k + 1), second) (lives t (k * 8 + 9) (record { sfits = c2 .before .lives-arg2 .given }) (c2 .lives2 .ensures) (all-at tests 1 h));
+      third = live-word _ ∙ rw (operation-at t (k + 2), third) (lives t (k * 8 + 17) (record { sfits = c3 .before .lives-arg3 .given }) (c3 .lives3 .ensures) (all-at tests 2 h));
+      fourth = live-word _ ∙ rw (operation-at t (k + 3), fourth) (lives t (k * 8 + 25) (record { sfits = c .before .lives-arg4 .given }) (c .lives4 .ensures) (all-at tests 3 h));
     }
 
 pub four-live-spec : {M : Type 1} → statement M

@@ -11,14 +11,14 @@ use Rattle.laws.specs.Order.{eqZ-true, eqZ-same}
 use Rattle.laws.specs.Lowest.{Lowest, lowest-is}
 use Rattle.version.specs.declared.Version.{Version}
 use Rattle.version.specs.Record.{runNumber}
 use Rattle.table.specs.declared.Slot.{Slot}
 use Rattle.table.specs.Slots.{empty, slots, slotAt}
 use Rattle.table.specs.SlotLaws.{four-more}
 use Rattle.table.specs.Operations.{deleteOperation, live}
 use Rattle.table.specs.OperationLaws.{dead-empty, dead-delete}
 use Rattle.table.specs.Formed.{allZeros, wellFormed}
 use Rattle.table.specs.FormedLaws.{Used, zeros-empty, empty-zeros, formed-cases}
-use Rattle.table.specs.Free.{longDeleted, free, freeSlot}
+use Rattle.searches.specs.Free.{longDeleted, free, freeSlot}
 
 pub freeSlot-is : (t : List ℤ) (v : Version) → Lowest (λ k. free (slotAt t k) v) (slots t) (freeSlot t v)
 unfolding freeSlot

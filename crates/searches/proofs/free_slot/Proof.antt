@@ -1,15 +1,15 @@
--- `table::free_slot` meets its contract: nothing below the place is free. Assumes nothing.
+-- `searches::free_slot` meets its contract: nothing below the place is free. Assumes nothing.
 use Prim.Native.Nat.{ℕ, _≤_, _<_, _-_}
 use mathlib.Core.Path.{_≡_, sym, _∙_}
 use mathlib.Core.Bool.{false}
 use native.Mathlib.Omega.{arith}
 use borrow.Author.Needs.{needs}
 use Rattle.laws.specs.Lowest.{lowest-only, below-next, found, exhausted}
 use Rattle.table.specs.Slots.{slotAt}
-use Rattle.table.specs.Free.{free}
-use Rattle.table.specs.FreeLaws.{freeSlot-is, past-live}
-use Rattle.table.proofs.free_slot.Statement.{statement}
-use Rattle.table.proofs.free_slot.Tie as tie
+use Rattle.searches.specs.Free.{free}
+use Rattle.searches.specs.FreeLaws.{freeSlot-is, past-live}
+use Rattle.searches.proofs.free_slot.Statement.{statement}
+use Rattle.searches.proofs.free_slot.Tie as tie
 
 abbrev Inv-loop : tie.InvT-loop
 Inv-loop table version slots place₀ place = (place ≤ slots) × ((j : ℕ) → j < place → free (slotAt table j) version ≡ false)

@@ -1,15 +1,15 @@
--- `table::long_deleted` meets its contract. Assumes nothing.
+-- `searches::long_deleted` meets its contract. Assumes nothing.
 use lib.IntN.{pos}
 use mir.Syntax.{w64}
 use mir.Val.{SFits}
 use borrow.Author.Needs.{needs}
 use Rattle.laws.specs.Tests.{all}
 use Rattle.laws.specs.Bits.{plain, eq-bits}
 use Rattle.table.specs.Operations.{deleteOperation}
-use Rattle.table.specs.Free.{longDeleted}
+use Rattle.searches.specs.Free.{longDeleted}
 use Rattle.table.specs.Fits.{SlotFits, told}
-use Rattle.table.proofs.long_deleted.Statement.{statement}
-use Rattle.table.proofs.long_deleted.Tie as tie
+use Rattle.searches.proofs.long_deleted.Statement.{statement}
+use Rattle.searches.proofs.long_deleted.Tie as tie
 
 fits : (c : tie.After-struct-told) → SlotFits (c .before .args .x)
 fits c = told _ (c .struct-told .given)
