@@ -3,7 +3,7 @@
 
 made=target/second
 default_seed=1
-default_count=3000000
+default_count=1500000
 
 find_kit() {
     command -v rt >/dev/null || { echo "second: there is no rt on the path" >&2; exit 2; }
