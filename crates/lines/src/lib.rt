@@ -1,4 +1,4 @@
-// The lines of the program `steps`: what a line asks, and what is answered to it.
+// The lines of the program `steps`: what a line asks, and what is answered to it. All here are leaves for our other crates.
 mod commands;
 mod replies;
 
