@@ -153,8 +153,10 @@ pub fn committed(version: Version) -> Turned
 pub fn begin(version: &mut Version) -> Numbered
     ensures { λ r. ⌜ Begun (now (version .entry)) (leaving r (now (version .exit))) ⌝ }
 {
-    let turned = begun(*version);
-    *version = turned.version;
+    let was = *version;
+    let turned = begun(was);
+    let marked = turned.version;
+    *version = marked;
     turned.answer
 }
 
@@ -162,7 +164,9 @@ pub fn begin(version: &mut Version) -> Numbered
 pub fn commit(version: &mut Version) -> Numbered
     ensures { λ r. ⌜ Committed (now (version .entry)) (leaving r (now (version .exit))) ⌝ }
 {
-    let turned = committed(*version);
-    *version = turned.version;
+    let was = *version;
+    let turned = committed(was);
+    let raised = turned.version;
+    *version = raised;
     turned.answer
 }
