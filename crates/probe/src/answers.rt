@@ -1,4 +1,5 @@
-// The numbers of each answer, in eight words: the refusal's or 0, then the answer's in order, and zeros.
+// The numbers of each answer, put into eight lent words: the refusal's or 0, then the answer's in order, and zeros. Each arm
+// writes its own: words handed back by value would be gathered in registers before it is known which they are.
 ghost use mathlib.Core.Path.{_≡_};
 ghost use mathlib.Core.List.{[], _∷_};
 ghost use lib.IntN.{pos};
@@ -16,23 +17,25 @@ use reader::Seen;
 const ROW: i64 = 1;
 
 // A refusal, or none: its number, and zeros.
-pub fn refusal(number: u32) -> [i64; 8]
-    ensures { λ r. ⌜ r ≡ padded (pos number ∷ []) ⌝ }
+pub fn put_refusal(out: &mut [i64; 8], number: u32)
+    ensures { λ _. ⌜ now (out .exit) ≡ padded (pos number ∷ []) ⌝ }
 {
-    [number as i64, 0, 0, 0, 0, 0, 0, 0]
+    *out = [number as i64, 0, 0, 0, 0, 0, 0, 0];
 }
 
-pub fn numbered(answer: Numbered) -> [i64; 8]
-    ensures { λ r. ⌜ r ≡ padded (ofNumbered answer) ⌝ }
+pub fn put_numbered(out: &mut [i64; 8], answer: Numbered)
+    ensures { λ _. ⌜ now (out .exit) ≡ padded (ofNumbered answer) ⌝ }
 {
     match answer {
-        Numbered::Number(version) => [0, version, 0, 0, 0, 0, 0, 0],
-        Numbered::Refused(number) => refusal(number),
+        Numbered::Number(version) => {
+            *out = [0, version, 0, 0, 0, 0, 0, 0];
+        }
+        Numbered::Refused(number) => put_refusal(out, number),
     }
 }
 
-pub fn seen(answer: Seen) -> [i64; 8]
-    ensures { λ r. ⌜ r ≡ padded (ofSeen answer) ⌝ }
+pub fn put_seen(out: &mut [i64; 8], answer: Seen)
+    ensures { λ _. ⌜ now (out .exit) ≡ padded (ofSeen answer) ⌝ }
 {
     match answer {
         Seen::Row {
@@ -40,49 +43,57 @@ pub fn seen(answer: Seen) -> [i64; 8]
             two,
             first,
             second,
-        } => [0, ROW, one, two, first, second, 0, 0],
-        Seen::NoRow => refusal(0),
-        Seen::Refused(number) => refusal(number),
+        } => {
+            *out = [0, ROW, one, two, first, second, 0, 0];
+        }
+        Seen::NoRow => put_refusal(out, 0),
+        Seen::Refused(number) => put_refusal(out, number),
     }
 }
 
-pub fn rolled(answer: Rolled) -> [i64; 8]
-    ensures { λ r. ⌜ r ≡ padded (ofRolled answer) ⌝ }
+pub fn put_rolled(out: &mut [i64; 8], answer: Rolled)
+    ensures { λ _. ⌜ now (out .exit) ≡ padded (ofRolled answer) ⌝ }
 {
     match answer {
         Rolled::Sums {
             count,
             first,
             second,
-        } => [0, count as i64, first, second, 0, 0, 0, 0],
-        Rolled::Refused(number) => refusal(number),
+        } => {
+            *out = [0, count as i64, first, second, 0, 0, 0, 0];
+        }
+        Rolled::Refused(number) => put_refusal(out, number),
     }
 }
 
-pub fn placed(answer: Placed) -> [i64; 8]
+pub fn put_placed(out: &mut [i64; 8], answer: Placed)
     requires { ⌜ Numbers answer ⌝ }
-    ensures { λ r. ⌜ r ≡ padded (ofPlaced answer) ⌝ }
+    ensures { λ _. ⌜ now (out .exit) ≡ padded (ofPlaced answer) ⌝ }
 {
     match answer {
-        Placed::At(slot) => [0, slot as i64, 0, 0, 0, 0, 0, 0],
-        Placed::Refused(number) => refusal(number),
+        Placed::At(slot) => {
+            *out = [0, slot as i64, 0, 0, 0, 0, 0, 0];
+        }
+        Placed::Refused(number) => put_refusal(out, number),
     }
 }
 
-pub fn header(answer: Header) -> [i64; 8]
-    ensures { λ r. ⌜ r ≡ padded (ofHeader answer) ⌝ }
+pub fn put_header(out: &mut [i64; 8], answer: Header)
+    ensures { λ _. ⌜ now (out .exit) ≡ padded (ofHeader answer) ⌝ }
 {
     match answer {
-        Header::Of { slots, current } => [0, slots as i64, current, 0, 0, 0, 0, 0],
-        Header::Refused(number) => refusal(number),
+        Header::Of { slots, current } => {
+            *out = [0, slots as i64, current, 0, 0, 0, 0, 0];
+        }
+        Header::Refused(number) => put_refusal(out, number),
     }
 }
 
-pub fn loaded(answer: Loaded) -> [i64; 8]
-    ensures { λ r. ⌜ r ≡ padded (ofLoaded answer) ⌝ }
+pub fn put_loaded(out: &mut [i64; 8], answer: Loaded)
+    ensures { λ _. ⌜ now (out .exit) ≡ padded (ofLoaded answer) ⌝ }
 {
     match answer {
-        Loaded::Done => refusal(0),
-        Loaded::Refused(number) => refusal(number),
+        Loaded::Done => put_refusal(out, 0),
+        Loaded::Refused(number) => put_refusal(out, number),
     }
 }

@@ -14,7 +14,7 @@ mod records;
 pub extern "C" fn probe_open(record_words: &[i64; 4], out: &mut [i64; 8])
     ensures { λ _. ⌜ now (out .exit) ≡ outAfter openSession (lent [] (now (record_words .entry)) []) ⌝ }
 {
-    *out = answers::numbered(reader::open(records::version_of(record_words)));
+    answers::put_numbered(out, reader::open(records::version_of(record_words)));
 }
 
 // begin: the run's number
@@ -26,7 +26,7 @@ pub extern "C" fn probe_begin(record_words: &mut [i64; 4], out: &mut [i64; 8])
     let turned = reader::begun(records::version_of(record_words));
     let answer = turned.answer;
     records::keep(record_words, turned.version);
-    *out = answers::numbered(answer);
+    answers::put_numbered(out, answer);
 }
 
 // commit: the new current
@@ -38,7 +38,7 @@ pub extern "C" fn probe_commit(record_words: &mut [i64; 4], out: &mut [i64; 8])
     let turned = reader::committed(records::version_of(record_words));
     let answer = turned.answer;
     records::keep(record_words, turned.version);
-    *out = answers::numbered(answer);
+    answers::put_numbered(out, answer);
 }
 
 // read a slot: mark 1 and the row, or zeros
@@ -52,12 +52,10 @@ pub extern "C" fn probe_read_slot(
 )
     ensures { λ _. ⌜ now (out .exit) ≡ outAfter (readSlot session slot) (lent (now (table .entry)) (now (record_words .entry)) []) ⌝ }
 {
-    *out = answers::seen(reader::read_slot(
-        table,
-        records::version_of(record_words),
-        session,
-        slot,
-    ));
+    answers::put_seen(
+        out,
+        reader::read_slot(table, records::version_of(record_words), session, slot),
+    );
 }
 
 // read a key: mark 1 and the row, or zeros
@@ -72,13 +70,10 @@ pub extern "C" fn probe_read_key(
 )
     ensures { λ _. ⌜ now (out .exit) ≡ outAfter (readKey session one two) (lent (now (table .entry)) (now (record_words .entry)) []) ⌝ }
 {
-    *out = answers::seen(reader::read_key(
-        table,
-        records::version_of(record_words),
-        session,
-        one,
-        two,
-    ));
+    answers::put_seen(
+        out,
+        reader::read_key(table, records::version_of(record_words), session, one, two),
+    );
 }
 
 // roll-up: count, sum one, sum two
@@ -92,7 +87,10 @@ pub extern "C" fn probe_roll_up(
 )
     ensures { λ _. ⌜ now (out .exit) ≡ outAfter (rollUp session one) (lent (now (table .entry)) (now (record_words .entry)) []) ⌝ }
 {
-    *out = answers::rolled(reader::roll_up(table, records::version_of(record_words), session, one));
+    answers::put_rolled(
+        out,
+        reader::roll_up(table, records::version_of(record_words), session, one),
+    );
 }
 
 // insert: the slot
@@ -109,14 +107,17 @@ pub extern "C" fn probe_insert(
     ensures { λ _. ⌜ now (out .exit) ≡ outAfter (insert one two first second) (lent (now (table .entry)) (now (record_words .entry)) []) ⌝ }
     ensures { λ _. ⌜ now (table .exit) ≡ tableAfter (insert one two first second) (lent (now (table .entry)) (now (record_words .entry)) []) ⌝ }
 {
-    *out = answers::placed(reader::insert(
-        table,
-        records::version_of(record_words),
-        one,
-        two,
-        first,
-        second,
-    ));
+    answers::put_placed(
+        out,
+        reader::insert(
+            table,
+            records::version_of(record_words),
+            one,
+            two,
+            first,
+            second,
+        ),
+    );
 }
 
 // update: the slot
@@ -133,14 +134,17 @@ pub extern "C" fn probe_update(
     ensures { λ _. ⌜ now (out .exit) ≡ outAfter (update one two first second) (lent (now (table .entry)) (now (record_words .entry)) []) ⌝ }
     ensures { λ _. ⌜ now (table .exit) ≡ tableAfter (update one two first second) (lent (now (table .entry)) (now (record_words .entry)) []) ⌝ }
 {
-    *out = answers::placed(reader::update(
-        table,
-        records::version_of(record_words),
-        one,
-        two,
-        first,
-        second,
-    ));
+    answers::put_placed(
+        out,
+        reader::update(
+            table,
+            records::version_of(record_words),
+            one,
+            two,
+            first,
+            second,
+        ),
+    );
 }
 
 // delete: the slot
@@ -155,7 +159,10 @@ pub extern "C" fn probe_delete(
     ensures { λ _. ⌜ now (out .exit) ≡ outAfter (delete one two) (lent (now (table .entry)) (now (record_words .entry)) []) ⌝ }
     ensures { λ _. ⌜ now (table .exit) ≡ tableAfter (delete one two) (lent (now (table .entry)) (now (record_words .entry)) []) ⌝ }
 {
-    *out = answers::placed(reader::delete(table, records::version_of(record_words), one, two));
+    answers::put_placed(
+        out,
+        reader::delete(table, records::version_of(record_words), one, two),
+    );
 }
 
 // save header: block 0
@@ -172,7 +179,7 @@ pub extern "C" fn probe_save_header(
     let saved = reader::save_header(table, records::version_of(record_words));
     let bytes = saved.block;
     *block = bytes;
-    *out = answers::refusal(saved.refusal);
+    answers::put_refusal(out, saved.refusal);
 }
 
 // save block: block k from 1
@@ -190,7 +197,7 @@ pub extern "C" fn probe_save_block(
     let saved = reader::save_block(table, records::version_of(record_words), number);
     let bytes = saved.block;
     *block = bytes;
-    *out = answers::refusal(saved.refusal);
+    answers::put_refusal(out, saved.refusal);
 }
 
 // load header: slots, current
@@ -198,7 +205,7 @@ pub extern "C" fn probe_save_block(
 pub extern "C" fn probe_load_header(block: &[u8], out: &mut [i64; 8])
     ensures { λ _. ⌜ now (out .exit) ≡ outAfter (loadHeader (now (block .entry))) (lent [] [] []) ⌝ }
 {
-    *out = answers::header(reader::load_header(block));
+    answers::put_header(out, reader::load_header(block));
 }
 
 // load block: its slots
@@ -213,10 +220,8 @@ pub extern "C" fn probe_load_block(
     ensures { λ _. ⌜ now (out .exit) ≡ outAfter (loadBlock number (now (block .entry))) (lent (now (table .entry)) (now (record_words .entry)) []) ⌝ }
     ensures { λ _. ⌜ now (table .exit) ≡ tableAfter (loadBlock number (now (block .entry))) (lent (now (table .entry)) (now (record_words .entry)) []) ⌝ }
 {
-    *out = answers::loaded(reader::load_block(
-        table,
-        records::version_of(record_words),
-        number,
-        block,
-    ));
+    answers::put_loaded(
+        out,
+        reader::load_block(table, records::version_of(record_words), number, block),
+    );
 }

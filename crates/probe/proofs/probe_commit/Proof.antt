@@ -7,10 +7,10 @@ use Rattle.probe.proofs.probe_commit.Tie as tie
 returns : tie.Need-returns
 unfolding outAfter recordAfter
 returns c =
-    let k = c .before in
+    let k = c .before .before in
     let b = k .before .before in
     let v = b .before .version-of .ensures in
-    (rw (c .numbered .ensures, b .committed .ensures .answer, v), rw (k .keep .ensures, b .committed .ensures .version, v))
+    (rw (c .put-numbered .ensures, b .committed .ensures .answer, v), rw (k .keep .ensures, b .committed .ensures .version, v))
 
 pub probe-commit-spec : {M : Type 1} → statement M
 probe-commit-spec = tie.close (tie.spec (λ c κs. search needs) (λ c κs. search needs) (λ c κs. search needs) (λ c κs. search needs) returns)

@@ -6,7 +6,7 @@ use Rattle.probe.specs.Probed.{outAfter, tableAfter}
 use Rattle.probe.proofs.probe_delete.Statement.{statement}
 use Rattle.probe.proofs.probe_delete.Tie as tie
 
-numbers : tie.Need-placed-requires
+numbers : tie.Need-put-placed-requires
 numbers c κs = rw (c .before .delete .ensures .answer) (delete-numbers _ _ _ _)
 
 returns : tie.Need-returns
@@ -14,8 +14,8 @@ unfolding outAfter tableAfter
 returns c =
     let r = c .before .before in
     let v = r .before .version-of .ensures in
-    let f = r .before .before .before .fits in (
-      rw (c .placed .ensures, r .delete .ensures .answer, v, plain _ (f .one), plain _ (f .two)),
+    let f = r .before .before .before .before .fits in (
+      rw (c .put-placed .ensures, r .delete .ensures .answer, v, plain _ (f .one), plain _ (f .two)),
       rw (r .delete .ensures .words, v, plain _ (f .one), plain _ (f .two)),
     )
 

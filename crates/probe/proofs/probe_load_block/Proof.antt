@@ -9,7 +9,7 @@ unfolding outAfter tableAfter
 returns c =
     let l = c .before .before in
     let v = l .before .version-of .ensures in
-    (rw (c .loaded .ensures, l .load-block .ensures .answer, v), rw (l .load-block .ensures .words, v))
+    (rw (c .put-loaded .ensures, l .load-block .ensures .answer, v), rw (l .load-block .ensures .words, v))
 
 pub probe-load-block-spec : {M : Type 1} → statement M
 probe-load-block-spec = tie.close (tie.spec (λ c κs. search needs) (λ c κs. search needs) (λ c κs. search needs) (λ c. search needs) returns)

@@ -6,7 +6,7 @@ use Rattle.probe.proofs.probe_open.Tie as tie
 
 returns : tie.Need-returns
 unfolding outAfter
-returns c = let o = c .before in rw (c .numbered .ensures, o .open .ensures .answer, o .before .version-of .ensures)
+returns c = let o = c .before in rw (c .put-numbered .ensures, o .open .ensures .answer, o .before .version-of .ensures)
 
 pub probe-open-spec : {M : Type 1} → statement M
 probe-open-spec = tie.close (tie.spec (λ c κs. search needs) (λ c κs. search needs) (λ c κs. search needs) returns)

@@ -9,8 +9,8 @@ returns : tie.Need-returns
 unfolding outAfter
 returns c =
     let r = c .before in
-    let f = r .before .before .fits in
-    rw (c .seen .ensures, r .read-slot .ensures .answer, r .before .version-of .ensures, plain _ (f .session))
+    let f = r .before .before .before .fits in
+    rw (c .put-seen .ensures, r .read-slot .ensures .answer, r .before .version-of .ensures, plain _ (f .session))
 
 pub probe-read-slot-spec : {M : Type 1} → statement M
 probe-read-slot-spec = tie.close (tie.spec (λ c κs. search needs) (λ c κs. search needs) (λ c κs. search needs) returns)

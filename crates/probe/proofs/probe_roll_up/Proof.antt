@@ -9,8 +9,8 @@ returns : tie.Need-returns
 unfolding outAfter
 returns c =
     let r = c .before in
-    let f = r .before .before .fits in
-    rw (c .rolled .ensures, r .roll-up .ensures .answer, r .before .version-of .ensures, plain _ (f .session), plain _ (f .one))
+    let f = r .before .before .before .fits in
+    rw (c .put-rolled .ensures, r .roll-up .ensures .answer, r .before .version-of .ensures, plain _ (f .session), plain _ (f .one))
 
 pub probe-roll-up-spec : {M : Type 1} → statement M
 probe-roll-up-spec = tie.close (tie.spec (λ c κs. search needs) (λ c κs. search needs) (λ c κs. search needs) returns)

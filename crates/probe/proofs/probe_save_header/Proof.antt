@@ -7,9 +7,9 @@ use Rattle.probe.proofs.probe_save_header.Tie as tie
 returns : tie.Need-returns
 unfolding outAfter blockAfter
 returns c =
-    let s = c .before .before in
+    let s = c .before .before .before in
     let v = s .before .version-of .ensures in
-    (rw (c .refusal .ensures, s .save-header .ensures .refusal, v), rw (s .save-header .ensures .block, v))
+    (rw (c .put-refusal .ensures, s .save-header .ensures .refusal, v), rw (s .save-header .ensures .block, v))
 
 pub probe-save-header-spec : {M : Type 1} → statement M
 probe-save-header-spec = tie.close (tie.spec (λ c κs. search needs) (λ c κs. search needs) (λ c κs. search needs) returns)
