@@ -7,3 +7,4 @@ pub mod ReadKey
 pub mod RollUp
 pub mod Outcomes
 pub mod RollUpLaws
+pub mod RowExpiry

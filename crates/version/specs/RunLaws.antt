@@ -1,13 +1,13 @@
 -- How the contracts of begin and commit are shown: a refusal leaves the record as it was; what is not refused is done. And what
 -- was tested where a call is accepted. Assumes nothing.
-use mathlib.Core.Path.{_≡_, refl, ap, ap₂}
-use mathlib.Core.Bool.{true, false, not, _&&_, _||_}
+use mathlib.Core.Path.{_≡_, refl}
+use mathlib.Core.Bool.{true, false}
 use Prim.Native.Nat.{ℕ, suc, _+_}
 use native.Mathlib.Omega.{arith}
 use lib.IntN.{ℤ, pos, negsuc, _+ℤ_}
 use lib.Signed.{leZ}
 use borrow.Author.Tests.{leb-true, le-leb, eqb-false}
-use Rattle.laws.specs.Tests.{any, clash, not-no}
+use Rattle.laws.specs.Tests.{clash, not-no}
 use Rattle.laws.specs.First.{unless-refused, unless-done, none}
 use Rattle.laws.specs.Order.{eqZ, next-low}
 use Rattle.version.specs.declared.Version.{Version}
@@ -15,7 +15,7 @@ use Rattle.version.specs.declared.Numbered.{Numbered}
 use Rattle.version.specs.declared.Numbered.the-variants.{Number, Refused}
 use Rattle.version.specs.declared.Turned.{Turned}
 use Rattle.version.specs.Record.{largestVersion, badRecord, runNumber}
-use Rattle.version.specs.RecordLaws.{sound}
+use Rattle.version.specs.RecordLaws.{sound, known}
 use Rattle.version.specs.Runs.{keptAs, beginRefusal, beginAnswer, beginRecord, begunFrom, Begun, commitRefusal, commitAnswer, commitRecord, committedFrom, Committed}
 
 pub begin-kept : {v : Version} {n : ℕ} → beginRefusal v ≡ n → (n ≡ 0 → ⊥) → Begun v (keptAs v n)
@@ -88,15 +88,17 @@ below-largest (pos n) l h ne = le-leb (n + 1) 1000000000 (omega (arith, leb-true
 below-largest (negsuc n) l h ne = clash l refl
 
 pub begun-sound : (v : Version) → beginRefusal v ≡ 0 → badRecord (begunFrom v) ≡ false
-unfolding badRecord any
 begun-sound v h =
     let can = can-begin v h in
     let s = sound {v = v} (can .known) in
-    ap₂ _||_ (ap not (ap₂ _&&_ (s .low) (s .high))) (can .room)
+    known (record { low = s .low; high = s .high; in-run = λ a. can .room })
 
 pub committed-sound : (v : Version) → commitRefusal v ≡ 0 → badRecord (committedFrom v) ≡ false
-unfolding badRecord any
 committed-sound v h =
     let can = can-commit v h in
     let s = sound {v = v} (can .known) in
-    ap₂ _||_ (ap not (ap₂ _&&_ (next-low (v .current) (s .low)) (below-largest (v .current) (s .low) (s .high) (s .in-run (can .active))))) refl
+    known (record {
+      low = next-low (v .current) (s .low);
+      high = below-largest (v .current) (s .low) (s .high) (s .in-run (can .active));
+      in-run = λ a. clash a refl;
+    })

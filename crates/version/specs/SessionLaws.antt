@@ -1,18 +1,18 @@
--- The laws of open sessions: during a run the one open session is current; and a session expires once the run two above it has
--- begun. Assumes nothing.
+-- The laws of open sessions: during a run the one open session is current; a session expires once the run two above it has
+-- begun; so no run's number is above the next of an open session. Assumes nothing.
 use mathlib.Core.Path.{_≡_, refl, sym, ap, _∙_}
-use mathlib.Core.Bool.{Bool, true, false, _&&_, _||_}
+use mathlib.Core.Bool.{Bool, true, false, cond, _&&_, _||_}
 use mathlib.Core.List.{[], _∷_}
 use Prim.Native.Nat.{ℕ, zero, suc, _+_, _≤_}
 use native.Mathlib.Omega.{arith}
-use lib.IntN.{ℤ, pos, negsuc, _-ℤ_}
+use lib.IntN.{ℤ, pos, negsuc, _+ℤ_, _-ℤ_}
 use lib.Signed.{ltZ, leZ}
 use lib.Dec.{eqb, ltb, leb}
-use borrow.Author.Tests.{ltb-true, ltb-false, eqb-true, eqb-false, le-ltb, le-leb, lt-leb}
+use borrow.Author.Tests.{ltb-true, ltb-false, leb-true, leb-false, eqb-true, eqb-false, le-ltb, le-leb, lt-leb}
 use Rattle.laws.specs.Tests.{any, none-at, clash, by-test}
 use Rattle.laws.specs.Order.{eqZ, previous}
 use Rattle.version.specs.declared.Version.{Version}
-use Rattle.version.specs.Record.{badRecord}
+use Rattle.version.specs.Record.{badRecord, lastRun}
 use Rattle.version.specs.RecordLaws.{sound}
 use Rattle.version.specs.Sessions.{unborn, expired}
 
@@ -60,3 +60,25 @@ near-expiry a (suc c) s l = rw (previous c) (go a)
 pub expires : (v : Version) (c s : ℕ) → v .current ≡ pos c → 1 ≤ c → expired v (pos s) ≡ leb (s + 2) (lastBegun (v .active) c)
 unfolding expired
 expires v c s e l = rw e (near-expiry (v .active) c s l)
+
+-- ---- an open session is not below the number before a run's, which is at most the last run's
+last-run : (v : Version) (c : ℕ) → v .current ≡ pos c → lastRun v ≡ pos (lastBegun (v .active) c)
+last-run v c e = rw e (go (v .active))
+  where
+    go : (a : Bool) → cond a (pos c +ℤ pos 1) (pos c) ≡ pos (lastBegun a c)
+    go true = ap pos (omega arith)
+    go false = refl
+
+reaches : (last s : ℕ) (r : ℤ) → leb (s + 2) last ≡ false → leZ r (pos last) ≡ true → ltZ (pos s) (r -ℤ pos 1) ≡ false
+reaches last s (pos zero) x h = refl
+reaches last s (pos (suc r)) x h = rw (previous r) (le-ltb s r (omega (arith, leb-false (s + 2) last x, leb-true (suc r) last h)))
+reaches last s (negsuc r) x h = refl
+
+pub open-reaches : (v : Version) (s r : ℤ) → badRecord v ≡ false → unborn v s ≡ false → expired v s ≡ false → leZ r (lastRun v) ≡ true → ltZ s (r -ℤ pos 1) ≡ false
+unfolding unborn
+open-reaches v s r b u x h = go (v .current) s refl (sound b .low) (none-at _ 0 u) x
+  where
+    go : (c s : ℤ) → v .current ≡ c → leZ (pos 1) c ≡ true → ltZ s (pos 1) ≡ false → expired v s ≡ false → ltZ s (r -ℤ pos 1) ≡ false
+    go (pos c) (pos s) e l y x = reaches _ s r (sym (expires v c s e (leb-true 1 c l)) ∙ x) (rw (last-run v c e) at h)
+    go (pos c) (negsuc s) e l y x = clash refl y
+    go (negsuc c) s e l y x = clash l refl
