@@ -1,5 +1,5 @@
 -- `searches::free_slot` meets its contract: nothing below the place is free. Assumes nothing.
-use Prim.Native.Nat.{ℕ, _≤_, _<_, _-_}
+use Prim.Native.Nat.{ℕ, _<_, _-_}
 use mathlib.Core.Path.{_≡_, sym, _∙_}
 use mathlib.Core.Bool.{false}
 use native.Mathlib.Omega.{arith}
@@ -12,7 +12,7 @@ use Rattle.searches.proofs.free_slot.Statement.{statement}
 use Rattle.searches.proofs.free_slot.Tie as tie
 
 abbrev Inv-loop : tie.InvT-loop
-Inv-loop table version slots place₀ place = (place ≤ slots) × ((j : ℕ) → j < place → free (slotAt table j) version ≡ false)
+Inv-loop table version slots place₀ place = (j : ℕ) → j < place → free (slotAt table j) version ≡ false
 
 abbrev μ-loop : tie.MeasureT-loop
 μ-loop table version slots place₀ place = slots - place
@@ -20,25 +20,23 @@ abbrev μ-loop : tie.MeasureT-loop
 returns : tie.Need-returns Inv-loop μ-loop
 returns c =
     let b = c .before in
-    lowest-only (found (b .before .before .before .before .loop .inv .1) (omega arith) (sym (b .free-at .ensures) ∙ c .if2 .taken)) (freeSlot-is _ _)
+    lowest-only (found (b .before .before .before .before .loop .inv) (omega arith) (sym (b .free-at .ensures) ∙ c .if2 .taken)) (freeSlot-is _ _)
 
 four-again : tie.Need-loop-again Inv-loop μ-loop
-four-again c =
-    let f = c .before .four-live .ensures (c .if1 .taken) in
-    (omega (arith, f .room), past-live _ f (c .before .before .before .loop .inv .1))
+four-again c = past-live _ (c .before .four-live .ensures (c .if1 .taken)) (c .before .before .before .loop .inv)
 
 one-again : tie.Need-loop-again-2 Inv-loop μ-loop
 one-again c =
     let b = c .before in
     let l = b .before .before .before .before in
-    (omega arith, below-next {p = λ j. free (slotAt (l .before .args .table .now) j) (l .before .args .version)} (l .loop .inv .1) (sym (b .free-at .ensures) ∙ c .if2 .left))
+    below-next {p = λ j. free (slotAt (l .before .args .table .now) j) (l .before .args .version)} (l .loop .inv) (sym (b .free-at .ensures) ∙ c .if2 .left)
 
 returns-2 : tie.Need-returns-2 Inv-loop μ-loop
-returns-2 c = lowest-only (exhausted (c .before .loop .inv .1) (omega arith)) (freeSlot-is _ _)
+returns-2 c = lowest-only (exhausted (c .before .loop .inv) (omega arith)) (freeSlot-is _ _)
 
 pub free-slot-spec : {M : Type 1} → statement M
 free-slot-spec =
     tie.close
-    (tie.spec Inv-loop μ-loop (λ c. (omega arith, λ j h. absurd (omega arith))) (λ c κs. search needs)
+    (tie.spec Inv-loop μ-loop (λ c j h. absurd (omega arith)) (λ c κs. search needs)
     (λ c. omega (arith, c .before .four-live .ensures (c .if1 .taken) .room)) (λ c. omega arith) four-again
     (λ c κs. search needs) returns (λ c. omega arith) (λ c. omega arith) one-again returns-2)

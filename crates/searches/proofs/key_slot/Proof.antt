@@ -1,5 +1,5 @@
 -- `searches::key_slot` meets its contract: nothing below k has the key. Assumes nothing.
-use Prim.Native.Nat.{ℕ, _≤_, _<_, _-_}
+use Prim.Native.Nat.{ℕ, _<_, _-_}
 use mathlib.Core.Path.{_≡_, sym, _∙_}
 use mathlib.Core.Bool.{Bool, false}
 use native.Mathlib.Omega.{arith}
@@ -16,7 +16,7 @@ use Rattle.searches.proofs.key_slot.Statement.{statement}
 use Rattle.searches.proofs.key_slot.Tie as tie
 
 abbrev Inv-loop : tie.InvT-loop
-Inv-loop table one two n k₀ k = (k ≤ n) × ((j : ℕ) → j < k → hasKey (slotAt table j) (toZ w64 one) (toZ w64 two) ≡ false)
+Inv-loop table one two n k₀ k = (j : ℕ) → j < k → hasKey (slotAt table j) (toZ w64 one) (toZ w64 two) ≡ false
 
 abbrev μ-loop : tie.MeasureT-loop
 μ-loop table one two n k₀ k = n - k
@@ -29,25 +29,23 @@ returns : tie.Need-returns Inv-loop μ-loop
 returns c =
     let l = c .before .before .before .before .before in
     lowest-only
-    (found (λ j h. plainly (l .before) _ (l .loop .inv .1 j h)) (omega arith) (plainly (l .before) _ (sym (c .before .has-key .ensures) ∙ c .if2 .taken)))
+    (found (λ j h. plainly (l .before) _ (l .loop .inv j h)) (omega arith) (plainly (l .before) _ (sym (c .before .has-key .ensures) ∙ c .if2 .taken)))
     (keySlot-is _ _ _)
 
 four-again : tie.Need-loop-again Inv-loop μ-loop
-four-again c =
-    let f = c .before .four-apart .ensures (c .if1 .taken) in
-    (omega (arith, f .room), past-four _ f (c .before .before .before .loop .inv .1))
+four-again c = past-four _ (c .before .four-apart .ensures (c .if1 .taken)) (c .before .before .before .loop .inv)
 
 one-again : tie.Need-loop-again-2 Inv-loop μ-loop
 one-again c =
     let l = c .before .before .before .before .before in
-    (omega arith, below-next {p = λ j. hasKey (slotAt (l .before .args .table .now) j) _ _} (l .loop .inv .1) (sym (c .before .has-key .ensures) ∙ c .if2 .left))
+    below-next {p = λ j. hasKey (slotAt (l .before .args .table .now) j) _ _} (l .loop .inv) (sym (c .before .has-key .ensures) ∙ c .if2 .left)
 
 returns-2 : tie.Need-returns-2 Inv-loop μ-loop
-returns-2 c = lowest-only (exhausted (λ j h. plainly (c .before .before) _ (c .before .loop .inv .1 j h)) (omega arith)) (keySlot-is _ _ _)
+returns-2 c = lowest-only (exhausted (λ j h. plainly (c .before .before) _ (c .before .loop .inv j h)) (omega arith)) (keySlot-is _ _ _)
 
 pub key-slot-spec : {M : Type 1} → statement M
 key-slot-spec =
     tie.close
-    (tie.spec Inv-loop μ-loop (λ c. (omega arith, λ j h. absurd (omega arith))) (λ c κs. search needs)
+    (tie.spec Inv-loop μ-loop (λ c j h. absurd (omega arith)) (λ c κs. search needs)
     (λ c. omega (arith, c .before .four-apart .ensures (c .if1 .taken) .room)) (λ c. omega arith) four-again
     (λ c κs. search needs) returns (λ c. omega arith) (λ c. omega arith) one-again returns-2)
