@@ -9,3 +9,4 @@ pub mod Insert
 pub mod Update
 pub mod Delete
 pub mod PlacedLaws
+pub mod Looked

@@ -1,6 +1,6 @@
 -- `changes::change_row` meets its contract. `pastN` says that the test of refusal N has failed; a return is the tests before its
 -- own, and its own. Assumes nothing.
-use mathlib.Core.Path.{_≡_, sym, ap, _∙_}
+use mathlib.Core.Path.{_≡_, ap, _∙_}
 use mathlib.Core.Bool.{false, not}
 use native.Mathlib.Omega.{arith}
 use borrow.Author.Needs.{needs}
@@ -8,61 +8,51 @@ use Rattle.laws.specs.Tests.{not-no}
 use Rattle.laws.specs.First.{skip, hit}
 use Rattle.laws.specs.Bits.{plain}
 use Rattle.table.specs.Formed.{broken}
-use Rattle.searches.specs.Keys.{keySlot, keyed}
+use Rattle.searches.specs.Keys.{keyed}
 use Rattle.searches.specs.KeyLaws.{live-placed}
 use Rattle.changes.specs.Update.{notLive}
 use Rattle.changes.specs.PlacedLaws.{refused, row-changed}
+use Rattle.changes.specs.Looked.{Looked, looked, looked-live}
 use Rattle.changes.proofs.change_row.Statement.{statement}
 use Rattle.changes.proofs.change_row.Tie as tie
 
--- the start from the search, from the read, and from what is past refusals 6 and 11
-abbrev start : tie.After-key-slot → tie.Start
-start c = c .before .before
-
-abbrev found : tie.After-slot-at → tie.After-key-slot
-found c = c .before .before
-
-abbrev read : tie.Else1 → tie.After-slot-at
-read c = c .before .before
+-- the start from what was looked up, and from what is past refusals 6 and 11
+abbrev start : tie.After-is-broken → tie.Start
+start c = c .before .before .before .before .before
 
 abbrev s6 : tie.Else1 → tie.Start
-s6 c = start (found (read c))
+s6 c = start (c .before)
 
 abbrev s11 : tie.Else2 → tie.Start
 s11 c = s6 (c .before .before)
 
--- the search found the key's slot, and that was read
-number : (c : tie.After-key-slot) → let a = start c .args in c .key-slot .result ≡ keySlot (a .table .now) (a .one) (a .two)
-number c = let f = start c .fits in rw (plain _ (f .one), plain _ (f .two)) at (c .key-slot .ensures)
-
-slot : (c : tie.After-slot-at) → let a = start (found c) .args in c .slot-at .result ≡ keyed (a .table .now) (a .one) (a .two)
-slot c = rw (number (found c)) at (c .slot-at .ensures)
-
-test6 : (c : tie.After-is-broken) → let a = start (found (c .before)) .args in
-    broken (keyed (a .table .now) (a .one) (a .two)) (a .version) ≡ c .is-broken .result
-test6 c = sym (rw (slot (c .before)) at (c .is-broken .ensures))
+look : (c : tie.After-is-broken) → let a = start c .args in
+    Looked (a .table .now) (a .version) (a .one) (a .two) (c .before .before .before .key-slot .result) (c .before .slot-at .result) (c .is-broken .result)
+look c =
+    let f = start c .fits in
+    looked (f .one) (f .two) (c .before .before .before .key-slot .ensures) (c .before .slot-at .ensures) (c .is-broken .ensures)
 
 is6 : tie.Need-returns
-is6 c = record { leaves = refused (hit _ (test6 (c .before) ∙ c .if1 .taken)) (omega arith) }
+is6 c = record { leaves = refused (hit _ (look (c .before) .test6 ∙ c .if1 .taken)) (omega arith) }
 
 past6 : (c : tie.Else1) → let a = s6 c .args in broken (keyed (a .table .now) (a .one) (a .two)) (a .version) ≡ false
-past6 c = test6 (c .before) ∙ c .if1 .left
+past6 c = look (c .before) .test6 ∙ c .if1 .left
+
+live11 : (c : tie.After-is-live) → let a = s6 (c .before) .args in notLive (a .table .now) (a .one) (a .two) ≡ not (c .is-live .result)
+live11 c = ap not (looked-live (look (c .before .before)) (c .is-live .ensures))
 
 is11 : tie.Need-returns-2
-is11 c =
-    let e = c .before .before in
-    let test = rw (slot (read e)) at (ap not (sym (c .before .is-live .ensures)) ∙ c .if2 .taken) in
-    record { leaves = refused (skip _ _ (past6 e) ∙ hit _ test) (omega arith) }
+is11 c = record { leaves = refused (skip _ _ (past6 (c .before .before)) ∙ hit _ (live11 (c .before) ∙ c .if2 .taken)) (omega arith) }
 
 past11 : (c : tie.Else2) → let a = s11 c .args in notLive (a .table .now) (a .one) (a .two) ≡ false
-past11 c = rw (slot (read (c .before .before))) at (ap not (sym (c .before .is-live .ensures)) ∙ c .if2 .left)
+past11 c = live11 (c .before) ∙ c .if2 .left
 
 -- a live key's slot is one of the table's
 room : tie.Need-place-requires
 room c κs =
     let e = c .before .before in
     let t = s11 e .pre .0 in
-    (t, rw (number (found (read (e .before .before)))) (live-placed _ _ _ t (not-no (past11 e))))
+    (t, rw (look (e .before .before .before) .number) (live-placed _ _ _ t (not-no (past11 e))))
 
 changes : tie.Need-returns-3
 changes c =
@@ -72,8 +62,8 @@ changes c =
     let g = e .before .before in
     let s = s11 e in
     let f = s .fits in
-    let y = rw (slot (read g), plain _ (f .one), plain _ (f .two), plain _ (f .first), plain _ (f .second)) at (w .change .ensures) in
-    row-changed (s .pre .0) (past6 g) (past11 e) (rw (number (found (read g)), y) at (p .place .ensures))
+    let y = rw (look (g .before) .slot, plain _ (f .one), plain _ (f .two), plain _ (f .first), plain _ (f .second)) at (w .change .ensures) in
+    row-changed (s .pre .0) (past6 g) (past11 e) (rw (look (g .before) .number, y) at (p .place .ensures))
 
 pub change-row-spec : {M : Type 1} → statement M
 change-row-spec =
