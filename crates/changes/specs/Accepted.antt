@@ -15,13 +15,13 @@ use Rattle.version.specs.declared.Version.{Version}
 use Rattle.version.specs.Record.{badRecord, runNumber}
 use Rattle.version.specs.RecordLaws.{sound}
 use Rattle.table.specs.declared.Slot.{Slot}
-use Rattle.table.specs.Slots.{slots, slotAt, empty}
+use Rattle.table.specs.Slots.{slots, slotAt, putSlot, empty}
 use Rattle.table.specs.Operations.{deleteOperation, live}
 use Rattle.table.specs.OperationLaws.{live-cases}
 use Rattle.table.specs.TotalLaws.{Given, given}
 use Rattle.table.specs.Formed.{wellFormed}
 use Rattle.table.specs.FormedLaws.{Used, live-used, formed-cases, dead-deleted}
-use Rattle.searches.specs.Keys.{hasKey, keySlot, keyed}
+use Rattle.searches.specs.Keys.{hasKey, keySlot, keyed, keyLive}
 use Rattle.searches.specs.KeyLaws.{Keyed, has-key, keySlot-is, empty-keyless, absent-empty, absent-nowhere, live-placed}
 use Rattle.searches.specs.Free.{free, freeSlot}
 use Rattle.searches.specs.FreeLaws.{freeSlot-is, free-cases}
@@ -89,39 +89,36 @@ module _ (v : Version) (known : badRecord v ≡ false) (active : v .active ≡ t
       rw (inserted-new (runNumber v) one two a b (older empty ∙ leZ-trans (pos 0) (pos 1) (v .current) refl (sound known .low)))
       (insert-effect v known active x one two a b g (free-unseen x f .0) (free-unseen x f .1))
 
--- ---- update
+-- ---- update and delete write at a live key's slot, which is used and has the key: what is left to show is the effect
+live-wrote : (t : List ℤ) (v : Version) (one two : ℤ) (after : Seen) (y : Slot) {t′ : List ℤ} → Whole t v → keyLive t one two ≡ true
+    → t′ ≡ putSlot t (keySlot t one two) y → (Used (keyed t one two) v → Keyed (keyed t one two) one two → Effect v (keyed t one two) y one two after)
+    → Wrote t v one two after (keySlot t one two) t′
+live-wrote t v one two after y whole l e effect =
+    let place = live-placed t one two (whole .shape) l in
+    let has = keySlot-is t one two .passes place in
+    record {
+      slot = y;
+      place = place;
+      words = e;
+      alone = only t (whole .distinct) (keySlot t one two) one two has;
+      effect = effect (live-used _ v l (whole .formed _)) (has-key _ one two has);
+    }
+
 pub update-wrote : (t : List ℤ) (v : Version) (one two a b : ℤ) → Whole t v → updateRefusal t v one two a b ≡ 0
     → Wrote t v one two (Row one two a b) (keySlot t one two) (updateWords t v one two a b)
 unfolding updateRefusal updateWords
 update-wrote t v one two a b whole h =
     let no = none _ tt h in
     let l = not-no (no 11) in
-    let place = live-placed t one two (no 1) l in
-    let has = keySlot-is t one two .passes place in
-    record {
-      slot = updated (runNumber v) (keyed t one two) a b;
-      place = place;
-      words = rw h refl;
-      alone = only t (whole .distinct) (keySlot t one two) one two has;
-      effect = update-effect v (no 2) (not-no (no 8)) (keyed t one two) one two a b (live-used _ v l (not-no (no 6))) (has-key _ one two has) l (given a b (no 13));
-    }
+    live-wrote t v one two _ _ whole l (rw h refl) (λ u k. update-effect v (no 2) (not-no (no 8)) _ one two a b u k l (given a b (no 13)))
 
--- ---- delete
 pub delete-wrote : (t : List ℤ) (v : Version) (one two : ℤ) → Whole t v → deleteRefusal t v one two ≡ 0
     → Wrote t v one two NoRow (keySlot t one two) (deleteWords t v one two)
 unfolding deleteRefusal deleteWords
 delete-wrote t v one two whole h =
     let no = none _ tt h in
     let l = not-no (no 11) in
-    let place = live-placed t one two (no 1) l in
-    let has = keySlot-is t one two .passes place in
-    record {
-      slot = deleted (runNumber v) (keyed t one two);
-      place = place;
-      words = rw h refl;
-      alone = only t (whole .distinct) (keySlot t one two) one two has;
-      effect = delete-effect v (no 2) (not-no (no 8)) (keyed t one two) one two (live-used _ v l (not-no (no 6))) (has-key _ one two has) l;
-    }
+    live-wrote t v one two _ _ whole l (rw h refl) (λ u k. delete-effect v (no 2) (not-no (no 8)) _ one two u k l)
 
 -- ---- insert
 -- a slot that has a key and is well formed is used
@@ -157,26 +154,23 @@ pub data Came (t : List ℤ) (v : Version) (one two : ℤ) (after : Seen) (r : P
   refuses : (n : ℕ) → Refuses (suc n) t r t′ → Came t v one two after r t′
   accepts : (k : ℕ) → Accepts v k r → Wrote t v one two after k t′ → Came t v one two after r t′
 
+-- by the number n of its refusal
+came : {t t′ : List ℤ} {v : Version} {one two : ℤ} {after : Seen} {r : Placed} {n k : ℕ} → ((m : ℕ) → n ≡ suc m → Refuses (suc m) t r t′)
+    → (n ≡ 0 → Accepts v k r) → (n ≡ 0 → Wrote t v one two after k t′) → Came t v one two after r t′
+came {n = zero} refused accepted wrote = accepts _ (accepted refl) (wrote refl)
+came {n = suc m} refused accepted wrote = refuses m (refused m refl)
+
 pub insert-came : (t : List ℤ) (v : Version) (one two a b : ℤ) → Whole t v
     → Came t v one two (Row one two a b) (insertAnswer t v one two a b) (insertWords t v one two a b)
-insert-came t v one two a b whole = go (insertRefusal t v one two a b) refl
-  where
-    go : (n : ℕ) → insertRefusal t v one two a b ≡ n → Came t v one two (Row one two a b) (insertAnswer t v one two a b) (insertWords t v one two a b)
-    go zero h = accepts _ (insert-accepts t v one two a b h) (insert-wrote t v one two a b whole h)
-    go (suc n) h = refuses n (insert-refuses t v one two a b n h)
+insert-came t v one two a b whole =
+    came {n = insertRefusal t v one two a b} (insert-refuses t v one two a b) (insert-accepts t v one two a b) (insert-wrote t v one two a b whole)
 
 pub update-came : (t : List ℤ) (v : Version) (one two a b : ℤ) → Whole t v
     → Came t v one two (Row one two a b) (updateAnswer t v one two a b) (updateWords t v one two a b)
-update-came t v one two a b whole = go (updateRefusal t v one two a b) refl
-  where
-    go : (n : ℕ) → updateRefusal t v one two a b ≡ n → Came t v one two (Row one two a b) (updateAnswer t v one two a b) (updateWords t v one two a b)
-    go zero h = accepts _ (update-accepts t v one two a b h) (update-wrote t v one two a b whole h)
-    go (suc n) h = refuses n (update-refuses t v one two a b n h)
+update-came t v one two a b whole =
+    came {n = updateRefusal t v one two a b} (update-refuses t v one two a b) (update-accepts t v one two a b) (update-wrote t v one two a b whole)
 
 pub delete-came : (t : List ℤ) (v : Version) (one two : ℤ) → Whole t v
     → Came t v one two NoRow (deleteAnswer t v one two) (deleteWords t v one two)
-delete-came t v one two whole = go (deleteRefusal t v one two) refl
-  where
-    go : (n : ℕ) → deleteRefusal t v one two ≡ n → Came t v one two NoRow (deleteAnswer t v one two) (deleteWords t v one two)
-    go zero h = accepts _ (delete-accepts t v one two h) (delete-wrote t v one two whole h)
-    go (suc n) h = refuses n (delete-refuses t v one two n h)
+delete-came t v one two whole =
+    came {n = deleteRefusal t v one two} (delete-refuses t v one two) (delete-accepts t v one two) (delete-wrote t v one two whole)

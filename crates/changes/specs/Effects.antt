@@ -62,6 +62,10 @@ module _ (v : Version) (known : badRecord v ≡ false) (active : v .active ≡ t
   keyed-row x a b k = ap₂ (λ p q. Row p q a b) (k .key1) (k .key2)
 
   module _ (x : Slot) (one two : ℤ) (u : Used x v) (k : Keyed x one two) where
+    -- where it is live, it shows a row of its own at the running version
+    own-live : live x ≡ true → Own one two (shown (runNumber v) x)
+    own-live l = own-row x k (shown-current (runNumber v) x (run-within u) l)
+
     -- ---- update
     module _ (a b : ℤ) (g : Given a b) (l : live x ≡ true) where
       pub save-effect : leZ (x .run) (v .current) ≡ true → Effect v x (saved (runNumber v) x a b) one two (Row one two a b)
@@ -69,18 +73,10 @@ module _ (v : Version) (known : badRecord v ≡ false) (active : v .active ≡ t
           let y = saved (runNumber v) x a b in
           record {
             low = shown-updated (v .current) y above refl ∙ sym (shown-current (v .current) x h l);
-            before = own-row x k (shown-current (runNumber v) x (run-within u) l);
+            before = own-live l;
             high = shown-current (runNumber v) y (leZ-refl (runNumber v)) (live-update y refl) ∙ keyed-row x a b k;
-            formed = used-formed (record {
-              operation = refl;
-              run = runs;
-              current1 = g .first;
-              current2 = g .second;
-              old1 = u .current1;
-              old2 = u .current2;
-              old-of-insert = refl;
-            });
-            key = inr (record { used = refl; key1 = k .key1; key2 = k .key2 });
+            formed = used-formed (search runs);
+            key = inr (search);
           }
 
       pub correct-effect : leZ (x .run) (v .current) ≡ false → Effect v x (corrected x a b) one two (Row one two a b)
@@ -90,18 +86,10 @@ module _ (v : Version) (known : badRecord v ≡ false) (active : v .active ≡ t
             low = live-cases x l
                 (λ e. shown-inserted (v .current) y h e ∙ sym (shown-inserted (v .current) x h e))
                 (λ e. shown-updated (v .current) y h e ∙ sym (shown-updated (v .current) x h e));
-            before = own-row x k (shown-current (runNumber v) x (run-within u) l);
+            before = own-live l;
             high = shown-current (runNumber v) y (run-within u) (live-same y x refl ∙ l) ∙ keyed-row x a b k;
-            formed = used-formed (record {
-              operation = u .operation;
-              run = u .run;
-              current1 = g .first;
-              current2 = g .second;
-              old1 = u .old1;
-              old2 = u .old2;
-              old-of-insert = u .old-of-insert;
-            });
-            key = inr (record { used = k .used; key1 = k .key1; key2 = k .key2 });
+            formed = used-formed (search);
+            key = inr (search);
           }
 
     -- ---- delete
@@ -110,24 +98,16 @@ module _ (v : Version) (known : badRecord v ≡ false) (active : v .active ≡ t
         let y = removed (runNumber v) x in
         record {
           low = shown-removed (v .current) y above refl ∙ sym (shown-current (v .current) x h l);
-          before = own-row x k (shown-current (runNumber v) x (run-within u) l);
+          before = own-live l;
           high = shown-deleted (runNumber v) y (leZ-refl (runNumber v)) refl;
-          formed = used-formed (record {
-            operation = refl;
-            run = runs;
-            current1 = u .current1;
-            current2 = u .current2;
-            old1 = u .current1;
-            old2 = u .current2;
-            old-of-insert = refl;
-          });
-          key = inr (record { used = refl; key1 = k .key1; key2 = k .key2 });
+          formed = used-formed (search runs);
+          key = inr (search);
         }
 
     pub erase-effect : leZ (x .run) (v .current) ≡ false → x .operation ≡ insertOperation → Effect v x empty one two NoRow
     erase-effect h e = record {
       low = shown-empty (v .current) ∙ sym (shown-inserted (v .current) x h e);
-      before = own-row x k (shown-current (runNumber v) x (run-within u) (live-insert x e));
+      before = own-live (live-insert x e);
       high = shown-empty (runNumber v);
       formed = empty-formed v;
       key = inl refl;
@@ -138,18 +118,10 @@ module _ (v : Version) (known : badRecord v ≡ false) (active : v .active ≡ t
         let y = marked x in
         record {
           low = shown-removed (v .current) y h refl ∙ sym (shown-updated (v .current) x h e);
-          before = own-row x k (shown-current (runNumber v) x (run-within u) (live-update x e));
+          before = own-live (live-update x e);
           high = shown-deleted (runNumber v) y (run-within u) refl;
-          formed = used-formed (record {
-            operation = refl;
-            run = u .run;
-            current1 = u .current1;
-            current2 = u .current2;
-            old1 = u .old1;
-            old2 = u .old2;
-            old-of-insert = refl;
-          });
-          key = inr (record { used = refl; key1 = k .key1; key2 = k .key2 });
+          formed = used-formed (search);
+          key = inr (search);
         }
 
     -- ---- insert, where this run deleted the row
@@ -161,16 +133,8 @@ module _ (v : Version) (known : badRecord v ≡ false) (active : v .active ≡ t
           low = shown-updated (v .current) y h refl ∙ sym (shown-removed (v .current) x h e);
           before = own-none one two (shown-deleted (runNumber v) x (run-within u) e);
           high = shown-current (runNumber v) y (run-within u) (live-update y refl) ∙ keyed-row x a b k;
-          formed = used-formed (record {
-            operation = refl;
-            run = u .run;
-            current1 = g .first;
-            current2 = g .second;
-            old1 = u .old1;
-            old2 = u .old2;
-            old-of-insert = refl;
-          });
-          key = inr (record { used = refl; key1 = k .key1; key2 = k .key2 });
+          formed = used-formed (search);
+          key = inr (search);
         }
 
   -- ---- insert, where neither version shows the slot
@@ -182,14 +146,6 @@ module _ (v : Version) (known : badRecord v ≡ false) (active : v .active ≡ t
         low = shown-inserted (v .current) y above refl ∙ sym low;
         before = own-none one two high;
         high = shown-current (runNumber v) y (leZ-refl (runNumber v)) (live-insert y refl);
-        formed = used-formed (record {
-          operation = refl;
-          run = runs;
-          current1 = g .first;
-          current2 = g .second;
-          old1 = lawful-zero;
-          old2 = lawful-zero;
-          old-of-insert = refl;
-        });
-        key = inr (record { used = refl; key1 = refl; key2 = refl });
+        formed = used-formed (search (runs, lawful-zero));
+        key = inr (search);
       }

@@ -2,9 +2,9 @@
 -- the key's slot have failed, and what is left of each list are the tests of the totals, the key and the room. And what refusal
 -- 12 says: the key has no slot, and every slot shows a row at one of the run's two versions. Assumes nothing.
 use mathlib.Core.Path.{_≡_, refl, sym, ap, _∙_}
-use mathlib.Core.Bool.{true, false, not}
+use mathlib.Core.Bool.{Bool, true, false, not}
 use mathlib.Core.Logic.{_⊎_, inl, inr}
-use mathlib.Core.List.{List, [], _∷_}
+use mathlib.Core.List.{List, [], _∷_, _++_}
 use Prim.Native.Nat.{ℕ, _<_, _≤_}
 use lib.Dec.{ltb}
 use lib.IntN.{ℤ}
@@ -20,35 +20,40 @@ use Rattle.table.specs.declared.Slot.{Slot}
 use Rattle.table.specs.Slots.{slots, slotAt}
 use Rattle.table.specs.Operations.{live}
 use Rattle.table.specs.Totals.{unlawful}
-use Rattle.table.specs.Formed.{wellFormed}
+use Rattle.table.specs.Formed.{wellFormed, broken}
 use Rattle.table.specs.FormedLaws.{dead-deleted}
-use Rattle.searches.specs.Keys.{keySlot, keyLive}
+use Rattle.searches.specs.Keys.{keySlot, keyed, keyLive}
 use Rattle.searches.specs.Free.{free, freeSlot}
 use Rattle.searches.specs.FreeLaws.{freeSlot-is, busy}
 use Rattle.reads.specs.Table1.{shown, currentRow, oldRow}
 use Rattle.reads.specs.Table1Laws.{shown-current, shown-removed}
 use Rattle.changes.specs.Effects.{run-within}
 use Rattle.changes.specs.Whole.{Whole}
+use Rattle.changes.specs.Running.{runningTests}
 use Rattle.changes.specs.Insert.{insertSlot, noSlot, insertRefusal}
 use Rattle.changes.specs.Update.{notLive, updateRefusal}
 use Rattle.changes.specs.Delete.{deleteRefusal}
 
 module _ (t : List ℤ) (v : Version) (whole : Whole t v) (known : badRecord v ≡ false) (active : v .active ≡ true) where
+  -- 1, 2 and 8 are not given, nor is 6
+  past8 : (l : List (Bool × ℕ)) → first (runningTests t v ++ l) ≡ first l
+  past8 l = skip 1 _ (whole .shape) ∙ skip 2 _ known ∙ skip 8 _ (ap not active)
+
+  past6 : (one two : ℤ) (l : List (Bool × ℕ)) → first ((broken (keyed t one two) v, 6) ∷ l) ≡ first l
+  past6 one two l = skip 6 l (ap not (whole .formed (keySlot t one two)))
+
   pub insert-refused : (one two a b : ℤ)
       → insertRefusal t v one two a b ≡ first ((unlawful a b, 13) ∷ (keyLive t one two, 10) ∷ (noSlot t v one two, 12) ∷ [])
   unfolding insertRefusal
-  insert-refused one two a b =
-      skip 1 _ (whole .shape) ∙ skip 2 _ known ∙ skip 8 _ (ap not active) ∙ under _ _ _ (skip 6 _ (ap not (whole .formed (keySlot t one two))))
+  insert-refused one two a b = past8 _ ∙ under _ _ _ (past6 one two _)
 
   pub update-refused : (one two a b : ℤ) → updateRefusal t v one two a b ≡ first ((unlawful a b, 13) ∷ (notLive t one two, 11) ∷ [])
   unfolding updateRefusal
-  update-refused one two a b =
-      skip 1 _ (whole .shape) ∙ skip 2 _ known ∙ skip 8 _ (ap not active) ∙ under _ _ _ (skip 6 _ (ap not (whole .formed (keySlot t one two))))
+  update-refused one two a b = past8 _ ∙ under _ _ _ (past6 one two _)
 
   pub delete-refused : (one two : ℤ) → deleteRefusal t v one two ≡ first ((notLive t one two, 11) ∷ [])
   unfolding deleteRefusal
-  delete-refused one two =
-      skip 1 _ (whole .shape) ∙ skip 2 _ known ∙ skip 8 _ (ap not active) ∙ skip 6 _ (ap not (whole .formed (keySlot t one two)))
+  delete-refused one two = past8 _ ∙ past6 one two _
 
   -- ---- no slot to take: the key has none, and none is free
   pub record Full (one two : ℤ) : Type 0 where

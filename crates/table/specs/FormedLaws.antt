@@ -112,15 +112,7 @@ pub formed-later : (x : Slot) (v w : Version) → leZ (lastRun v) (lastRun w) �
 formed-later x v w l h =
     formed-cases x v h (λ e. rw e (empty-formed w))
     (λ u. let r = from-to (pos 1) (lastRun v) (x .run) (u .run) in
-    used-formed (record {
-      operation = u .operation;
-      run = ap₂ _&&_ (r .low) (leZ-trans (x .run) (lastRun v) (lastRun w) (r .high) l);
-      current1 = u .current1;
-      current2 = u .current2;
-      old1 = u .old1;
-      old2 = u .old2;
-      old-of-insert = u .old-of-insert;
-    }))
+    used-formed (search (ap₂ _&&_ (r .low) (leZ-trans (x .run) (lastRun v) (lastRun w) (r .high) l))))
 
 -- ---- where each slot is well formed, none is broken
 pub all-formed : (t : List ℤ) (v : Version) → ((k : ℕ) → wellFormed (slotAt t k) v ≡ true) → anyBroken t v ≡ false
