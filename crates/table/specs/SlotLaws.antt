@@ -67,6 +67,10 @@ pub key2-at : (t : List ℤ) (k : ℕ) → slotAt t k .key2 ≡ word t (k * slot
 unfolding slotAt
 key2-at t k = refl
 
+-- a word of a slot further on
+pub word-on : (t : List ℤ) (k i n : ℕ) → word t ((k + i) * slotWords + n) ≡ word t (k * slotWords + (i * slotWords + n))
+word-on t k i n = ap (word t) (omega arith)
+
 -- ---- a slot past the end is empty
 pub slotAt-past : (t : List ℤ) (k : ℕ) → badTable t ≡ false → slots t ≤ k → slotAt t k ≡ empty
 slotAt-past t k h l = by-words (λ n b. word-at t k n b ∙ past n ∙ sym (getD-replicate slotWords n (pos 0) (pos 0) b))

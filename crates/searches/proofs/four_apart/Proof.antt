@@ -14,7 +14,7 @@ use Rattle.laws.specs.Tests.{all, all-at, clash, not-yes}
 use Rattle.laws.specs.Order.{eqZ}
 use Rattle.laws.specs.Bits.{eq-bits}
 use Rattle.table.specs.Slots.{word}
-use Rattle.table.specs.SlotLaws.{key2-at}
+use Rattle.table.specs.SlotLaws.{key2-at, word-on}
 use Rattle.searches.proofs.four_apart.Statement.{statement}
 use Rattle.searches.proofs.four_apart.Tie as tie
 
@@ -34,15 +34,12 @@ returns-2 c h =
     let two = s .args .two in
     let g = s .fits .two in
     let tests = differs t (k * 8 + 3) two ∷ differs t (k * 8 + 11) two ∷ differs t (k * 8 + 19) two ∷ differs t (k * 8 + 27) two ∷ [] in
-    let second : (k + 1) * 8 + 3 ≡ k * 8 + 11 = omega arith in
-    let third : (k + 2) * 8 + 3 ≡ k * 8 + 19 = omega arith in
-    let fourth : (k + 3) * 8 + 3 ≡ k * 8 + 27 = omega arith in
     record {
       room = omega arith;
       first = rw (key2-at t k) (other t _ two (record { sfits = c .before .before .before .result .given }) g (all-at tests 0 h));
-      second = rw (key2-at t (k + 1), second) (other t _ two (record { sfits = c .before .before .result2 .given }) g (all-at tests 1 h));
-      third = rw (key2-at t (k + 2), third) (other t _ two (record { sfits = c .before .result3 .given }) g (all-at tests 2 h));
-      fourth = rw (key2-at t (k + 3), fourth) (other t _ two (record { sfits = c .result4 .given }) g (all-at tests 3 h));
+      second = rw (key2-at t (k + 1), word-on t k 1 3) (other t _ two (record { sfits = c .before .before .result2 .given }) g (all-at tests 1 h));
+      third = rw (key2-at t (k + 2), word-on t k 2 3) (other t _ two (record { sfits = c .before .result3 .given }) g (all-at tests 2 h));
+      fourth = rw (key2-at t (k + 3), word-on t k 3 3) (other t _ two (record { sfits = c .result4 .given }) g (all-at tests 3 h));
     }
 
 pub four-apart-spec : {M : Type 1} → statement M

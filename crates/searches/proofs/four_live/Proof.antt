@@ -12,7 +12,7 @@ use borrow.Author.Needs.{needs}
 use Rattle.laws.specs.Tests.{all, all-at, clash}
 use Rattle.laws.specs.Bits.{plain}
 use Rattle.table.specs.Slots.{word}
-use Rattle.table.specs.SlotLaws.{operation-at}
+use Rattle.table.specs.SlotLaws.{operation-at, word-on}
 use Rattle.table.specs.OperationLaws.{liveWord, live-word}
 use Rattle.searches.proofs.four_live.Statement.{statement}
 use Rattle.searches.proofs.four_live.Tie as tie
@@ -31,15 +31,12 @@ returns-2 c h =
     let t = s .args .table .now in
     let k = s .args .k in
     let tests = c1 .lives .result ∷ c2 .lives2 .result ∷ c3 .lives3 .result ∷ c .lives4 .result ∷ [] in
-    let second : (k + 1) * 8 + 1 ≡ k * 8 + 9 = omega arith in
-    let third : (k + 2) * 8 + 1 ≡ k * 8 + 17 = omega arith in
-    let fourth : (k + 3) * 8 + 1 ≡ k * 8 + 25 = omega arith in
     record {
       room = omega arith;
       first = live-word _ ∙ rw (operation-at t k) (lives t (k * 8 + 1) (record { sfits = c1 .before .lives-arg .given }) (c1 .lives .ensures) (all-at tests 0 h));
-      second = live-word _ ∙ rw (operation-at t (k + 1), second) (lives t (k * 8 + 9) (record { sfits = c2 .before .lives-arg2 .given }) (c2 .lives2 .ensures) (all-at tests 1 h));
-      third = live-word _ ∙ rw (operation-at t (k + 2), third) (lives t (k * 8 + 17) (record { sfits = c3 .before .lives-arg3 .given }) (c3 .lives3 .ensures) (all-at tests 2 h));
-      fourth = live-word _ ∙ rw (operation-at t (k + 3), fourth) (lives t (k * 8 + 25) (record { sfits = c .before .lives-arg4 .given }) (c .lives4 .ensures) (all-at tests 3 h));
+      second = live-word _ ∙ rw (operation-at t (k + 1), word-on t k 1 1) (lives t (k * 8 + 9) (record { sfits = c2 .before .lives-arg2 .given }) (c2 .lives2 .ensures) (all-at tests 1 h));
+      third = live-word _ ∙ rw (operation-at t (k + 2), word-on t k 2 1) (lives t (k * 8 + 17) (record { sfits = c3 .before .lives-arg3 .given }) (c3 .lives3 .ensures) (all-at tests 2 h));
+      fourth = live-word _ ∙ rw (operation-at t (k + 3), word-on t k 3 1) (lives t (k * 8 + 25) (record { sfits = c .before .lives-arg4 .given }) (c .lives4 .ensures) (all-at tests 3 h));
     }
 
 pub four-live-spec : {M : Type 1} → statement M
