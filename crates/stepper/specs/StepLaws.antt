@@ -6,8 +6,8 @@ use native.Mathlib.Omega.{arith}
 use lib.IntN.{ℤ}
 use lib.ListN.{length}
 use Rattle.version.specs.declared.Version.{Version}
-use Rattle.lines.specs.declared.Command.{Command}
-use Rattle.lines.specs.Commands.{asked}
+use Rattle.commands.specs.declared.Command.{Command}
+use Rattle.commands.specs.Commands.{asked}
 use Rattle.stepper.specs.declared.Turn.{Turn}
 use Rattle.stepper.specs.declared.Progress.{Progress}
 use Rattle.stepper.specs.Steps.{reply, wordsAfter, recordAfter, Replied, Answered, Sound}

@@ -11,11 +11,11 @@ use Rattle.reads.specs.ReadKey.{readKeyAnswer}
 use Rattle.changes.specs.Insert.{insertAnswer, insertWords}
 use Rattle.changes.specs.Update.{updateAnswer, updateWords}
 use Rattle.changes.specs.Delete.{deleteAnswer, deleteWords}
-use Rattle.lines.specs.declared.Command.{Command}
-use Rattle.lines.specs.declared.Command.the-variants.{Begin, Commit, Insert, Update, Delete, Read, Bad}
-use Rattle.lines.specs.Commands.{asked}
-use Rattle.lines.specs.Replies.{versionLine, slotLine, rowLine, badLine}
-use Rattle.lines.specs.Written.{Written}
+use Rattle.commands.specs.declared.Command.{Command}
+use Rattle.commands.specs.declared.Command.the-variants.{Begin, Commit, Insert, Update, Delete, Read, Bad}
+use Rattle.commands.specs.Commands.{asked}
+use Rattle.replies.specs.Replies.{versionLine, slotLine, rowLine, badLine}
+use Rattle.replies.specs.Written.{Written}
 use Rattle.stepper.specs.declared.Turn.{Turn}
 use Rattle.stepper.specs.declared.Progress.{Progress}
 

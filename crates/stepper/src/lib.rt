@@ -4,11 +4,11 @@
 ghost use mathlib.Core.Path.{_≡_};
 ghost use Prim.Native.Nat.{_≤_};
 ghost use lib.ListN.{length};
-ghost use Rattle.lines.specs.Replies.{versionLine, slotLine, rowLine, badLine};
+ghost use Rattle.replies.specs.Replies.{versionLine, slotLine, rowLine, badLine};
 ghost use Rattle.stepper.specs.Steps.{Replied, Answered, Sound};
+use commands::Command;
 use libc::STDIN_FILENO;
 use libc::STDOUT_FILENO;
-use lines::Command;
 use reader::Placed;
 use reader::Seen;
 use reader::Turned;
@@ -18,7 +18,7 @@ use reader::Version;
 const TABLE_WORDS: usize = 64;
 
 // A byte more than the longest command: of a longer line these show that it is bad.
-const LINE_BYTES: usize = lines::LONGEST_COMMAND + 1;
+const LINE_BYTES: usize = commands::LONGEST_COMMAND + 1;
 
 const NEWLINE: u8 = 10;
 
@@ -36,7 +36,7 @@ fn reply_turned(turned: Turned, buffer: &mut [u8], place: usize) -> Turn
     let version = turned.version;
     Turn {
         version: version,
-        place: lines::write_version(buffer, place, answer),
+        place: replies::write_version(buffer, place, answer),
     }
 }
 
@@ -46,7 +46,7 @@ fn reply_placed(answer: Placed, version: Version, buffer: &mut [u8], place: usiz
 {
     Turn {
         version: version,
-        place: lines::write_slot(buffer, place, answer),
+        place: replies::write_slot(buffer, place, answer),
     }
 }
 
@@ -56,7 +56,7 @@ fn reply_seen(answer: Seen, version: Version, buffer: &mut [u8], place: usize) -
 {
     Turn {
         version: version,
-        place: lines::write_row(buffer, place, answer),
+        place: replies::write_row(buffer, place, answer),
     }
 }
 
@@ -66,7 +66,7 @@ fn reply_bad(version: Version, buffer: &mut [u8], place: usize) -> Turn
 {
     Turn {
         version: version,
-        place: lines::write_bad_line(buffer, place),
+        place: replies::write_bad_line(buffer, place),
     }
 }
 
@@ -74,7 +74,7 @@ fn reply_bad(version: Version, buffer: &mut [u8], place: usize) -> Turn
 fn answer(table: &mut [i64], version: Version, line: &[u8], buffer: &mut [u8], place: usize) -> Turn
     ensures { λ r. ⌜ Answered (now (table .entry)) version (now (line .entry)) (now (buffer .entry)) place r (now (table .exit)) (now (buffer .exit)) ⌝ }
 {
-    match lines::read_command(line) {
+    match commands::read_command(line) {
         Command::Begin => reply_turned(reader::begun(version), buffer, place),
         Command::Commit => reply_turned(reader::committed(version), buffer, place),
         Command::Insert {
@@ -145,7 +145,7 @@ fn make_room(buffer: &[u8], progress: Progress) -> Progress
     requires { ⌜ progress .place ≤ length (now buffer) ⌝ }
     ensures { λ r. ⌜ (r .kept ≡ progress .kept) × (r .place ≤ length (now (buffer .entry))) ⌝ }
 {
-    if buffer.len() - progress.place < lines::LONGEST_LINE {
+    if buffer.len() - progress.place < replies::LONGEST_LINE {
         return flush(buffer, progress);
     }
     progress
