@@ -21,7 +21,8 @@ use version::Numbered;
 // The longest line that is answered: row, and two numbers of 20 bytes, a space before each, and a newline.
 pub const LONGEST_LINE: usize = 46;
 
-const NEWLINE: u8 = 10;
+// What ends a line.
+pub const NEWLINE: u8 = 10;
 
 fn put_byte(buffer: &mut [u8], place: usize, byte: u8) -> usize
     requires { ⌜ Room (now buffer) place (byte ∷ []) ⌝ }

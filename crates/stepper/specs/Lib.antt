@@ -1,2 +1,2 @@
-pub mod Steps
-pub mod StepLaws
+pub mod Sound
+pub mod SoundLaws

@@ -1,111 +1,20 @@
 // The work of the program `steps`: a table of 8 slots and a record, both fresh; each line of standard input is answered by a
-// line of standard output. It reads, cuts lines, asks the library and writes. What is answered is written when there is no room
+// line of standard output. It reads, cuts lines, has each answered and writes. What is answered is written when there is no room
 // for more, and before each read, so that whoever waits for an answer has it.
 ghost use mathlib.Core.Path.{_≡_};
 ghost use Prim.Native.Nat.{_≤_};
 ghost use lib.ListN.{length};
-ghost use Rattle.replies.specs.Replies.{versionLine, slotLine, rowLine, badLine};
-ghost use Rattle.stepper.specs.Steps.{Replied, Answered, Sound};
-use commands::Command;
+ghost use Rattle.stepper.specs.Sound.{Sound};
 use libc::STDIN_FILENO;
 use libc::STDOUT_FILENO;
-use reader::Placed;
-use reader::Seen;
-use reader::Turned;
 use reader::Version;
+use replies::NEWLINE;
 
 // 8 slots of 8 words.
 const TABLE_WORDS: usize = 64;
 
 // A byte more than the longest command: of a longer line these show that it is bad.
 const LINE_BYTES: usize = commands::LONGEST_COMMAND + 1;
-
-const NEWLINE: u8 = 10;
-
-// What a line leaves: the record, and the place after the reply in the buffer.
-struct Turn {
-    version: Version,
-    place: usize,
-}
-
-// The reply to begin or commit.
-fn reply_turned(turned: Turned, buffer: &mut [u8], place: usize) -> Turn
-    ensures { λ r. ⌜ Replied (turned .version) (versionLine (turned .answer)) (now (buffer .entry)) place r (now (buffer .exit)) ⌝ }
-{
-    let answer = turned.answer;
-    let version = turned.version;
-    Turn {
-        version: version,
-        place: replies::write_version(buffer, place, answer),
-    }
-}
-
-// The reply to a change.
-fn reply_placed(answer: Placed, version: Version, buffer: &mut [u8], place: usize) -> Turn
-    ensures { λ r. ⌜ Replied version (slotLine answer) (now (buffer .entry)) place r (now (buffer .exit)) ⌝ }
-{
-    Turn {
-        version: version,
-        place: replies::write_slot(buffer, place, answer),
-    }
-}
-
-// The reply to a read.
-fn reply_seen(answer: Seen, version: Version, buffer: &mut [u8], place: usize) -> Turn
-    ensures { λ r. ⌜ Replied version (rowLine answer) (now (buffer .entry)) place r (now (buffer .exit)) ⌝ }
-{
-    Turn {
-        version: version,
-        place: replies::write_row(buffer, place, answer),
-    }
-}
-
-// The reply to anything else.
-fn reply_bad(version: Version, buffer: &mut [u8], place: usize) -> Turn
-    ensures { λ r. ⌜ Replied version badLine (now (buffer .entry)) place r (now (buffer .exit)) ⌝ }
-{
-    Turn {
-        version: version,
-        place: replies::write_bad_line(buffer, place),
-    }
-}
-
-// A line answered.
-fn answer(table: &mut [i64], version: Version, line: &[u8], buffer: &mut [u8], place: usize) -> Turn
-    ensures { λ r. ⌜ Answered (now (table .entry)) version (now (line .entry)) (now (buffer .entry)) place r (now (table .exit)) (now (buffer .exit)) ⌝ }
-{
-    match commands::read_command(line) {
-        Command::Begin => reply_turned(reader::begun(version), buffer, place),
-        Command::Commit => reply_turned(reader::committed(version), buffer, place),
-        Command::Insert {
-            one,
-            two,
-            first,
-            second,
-        } => {
-            let placed = reader::insert(table, version, one, two, first, second);
-            reply_placed(placed, version, buffer, place)
-        }
-        Command::Update {
-            one,
-            two,
-            first,
-            second,
-        } => {
-            let placed = reader::update(table, version, one, two, first, second);
-            reply_placed(placed, version, buffer, place)
-        }
-        Command::Delete { one, two } => {
-            let placed = reader::delete(table, version, one, two);
-            reply_placed(placed, version, buffer, place)
-        }
-        Command::Read { session, one, two } => {
-            let seen = reader::read_key(table, version, session, one, two);
-            reply_seen(seen, version, buffer, place)
-        }
-        Command::Bad => reply_bad(version, buffer, place),
-    }
-}
 
 // What stands between two bytes: the record, how many bytes of the line are kept and how many of the buffer are to be written,
 // whether there may be more to read, and whether all that was written was taken.
@@ -162,7 +71,7 @@ fn end_line(table: &mut [i64], line: &[u8], buffer: &mut [u8], progress: Progres
     }
     let before = ready.version;
     let kept = ready.kept;
-    let turn = answer(table, before, &line[..kept], buffer, ready.place);
+    let turn = answers::answer(table, before, &line[..kept], buffer, ready.place);
     let version = turn.version;
     Progress {
         version: version,

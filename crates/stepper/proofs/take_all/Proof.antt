@@ -1,7 +1,7 @@
 -- `stepper::take_all` meets its contract, and ends: what holds from byte to byte holds at the end. Assumes nothing.
 use mathlib.Core.Path.{refl}
 use native.Mathlib.Omega.{arith}
-use Rattle.stepper.specs.StepLaws.{Held, sound}
+use Rattle.stepper.specs.SoundLaws.{Held, sound}
 use Rattle.stepper.proofs.take_all.Statement.{statement}
 use Rattle.stepper.proofs.take_all.Tie as tie
 

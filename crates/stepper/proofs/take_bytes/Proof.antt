@@ -4,7 +4,7 @@ use Prim.Native.Nat.{_≤_, _-_}
 use native.Mathlib.Omega.{arith}
 use lib.ListN.{length}
 use borrow.Author.Needs.{needs}
-use Rattle.stepper.specs.StepLaws.{Held, sound}
+use Rattle.stepper.specs.SoundLaws.{Held, sound}
 use Rattle.stepper.proofs.take_bytes.Statement.{statement}
 use Rattle.stepper.proofs.take_bytes.Tie as tie
 

@@ -2,9 +2,8 @@
 -- Assumes nothing.
 use mathlib.Core.Path.{_≡_}
 use mathlib.Core.List.{List}
-use Prim.Native.Nat.{ℕ, _≤_}
+use Prim.Native.Nat.{ℕ}
 use lib.IntN.{ℤ}
-use lib.ListN.{length}
 use Rattle.version.specs.declared.Version.{Version}
 use Rattle.version.specs.Runs.{beginAnswer, beginRecord, commitAnswer, commitRecord}
 use Rattle.reads.specs.ReadKey.{readKeyAnswer}
@@ -16,8 +15,7 @@ use Rattle.commands.specs.declared.Command.the-variants.{Begin, Commit, Insert,
 use Rattle.commands.specs.Commands.{asked}
 use Rattle.replies.specs.Replies.{versionLine, slotLine, rowLine, badLine}
 use Rattle.replies.specs.Written.{Written}
-use Rattle.stepper.specs.declared.Turn.{Turn}
-use Rattle.stepper.specs.declared.Progress.{Progress}
+use Rattle.answers.specs.declared.Turn.{Turn}
 
 -- B begin, C commit, I insert, U update, D delete, R read a key; anything else is a bad line
 abbrev pub reply : Command → List ℤ → Version → List ℕ
@@ -58,8 +56,3 @@ pub record Replied (v : Version) (line buffer : List ℕ) (place : ℕ) (r : Tur
 pub record Answered (t : List ℤ) (v : Version) (line buffer : List ℕ) (place : ℕ) (r : Turn) (t′ : List ℤ) (buffer′ : List ℕ) : Type 0 where
   pub words : t′ ≡ wordsAfter (asked line) t v
   pub replied : Replied (recordAfter (asked line) v) (reply (asked line) t v) buffer place r buffer′
-
--- what is kept between two bytes lies in the lent line and the lent buffer
-pub record Sound (p : Progress) (line buffer : List ℕ) : Type 0 where
-  pub kept : p .kept ≤ length line
-  pub place : p .place ≤ length buffer

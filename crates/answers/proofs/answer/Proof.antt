@@ -1,13 +1,13 @@
--- `stepper::answer` meets its contract: an arm for each command, which does what the command asks and replies to it.
+-- `answers::answer` meets its contract: an arm for each command, which does what the command asks and replies to it.
 -- Assumes nothing.
-use mathlib.Core.Path.{_≡_, refl, sym, _∙_}
+use mathlib.Core.Path.{refl, sym, _∙_}
 use mir.Syntax.{w64}
 use mir.Val.{SFits}
 use borrow.Author.Needs.{needs}
 use Rattle.laws.specs.Bits.{plain}
-use Rattle.stepper.specs.StepLaws.{answered}
-use Rattle.stepper.proofs.answer.Statement.{statement}
-use Rattle.stepper.proofs.answer.Tie as tie
+use Rattle.answers.specs.AnswerLaws.{answered}
+use Rattle.answers.proofs.answer.Statement.{statement}
+use Rattle.answers.proofs.answer.Tie as tie
 
 begins : tie.Need-returns
 begins c =
