@@ -1,5 +1,6 @@
 pub mod Tests
 pub mod First
+pub mod Below
 pub mod Lowest
 pub mod Order
 pub mod Bits

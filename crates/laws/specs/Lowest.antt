@@ -1,7 +1,7 @@
 -- The lowest index below a bound that passes a test, or the bound where none does: that it is so, that nothing else is, that
 -- the test may be replaced by one that agrees below the bound, and one step of a search for it; and that some index passes.
 -- Assumes nothing.
-use mathlib.Core.Path.{_≡_, refl, sym, subst, _∙_}
+use mathlib.Core.Path.{_≡_, refl, _∙_}
 use mathlib.Core.Bool.{Bool, true, false}
 use lib.Dec.{ltb}
 use borrow.Author.Tests.{ltb-true, ltb-false, lt-ltb}
@@ -9,6 +9,7 @@ use Prim.Native.Nat.{ℕ, zero, suc, _+_, _≤_, _<_, suc-le-suc, zero-le}
 use native.Mathlib.Nat.{le-of-suc-le-suc, not-suc-le-zero, lt-of-le-of-lt}
 use native.Mathlib.Omega.{arith}
 use Rattle.laws.specs.Tests.{by-test, clash}
+use Rattle.laws.specs.Below.{one-more}
 
 unfoldable pub lowest : (ℕ → Bool) → ℕ → ℕ
 lowest p zero = zero
@@ -64,9 +65,7 @@ lowest-agrees p q n same =
 
 -- a search passes one more index
 pub below-next : {p : ℕ → Bool} {k : ℕ} → ((j : ℕ) → j < k → p j ≡ false) → p k ≡ false → (j : ℕ) → j < k + 1 → p j ≡ false
-below-next {p} {k} b h j l =
-    by-test (ltb j k) (λ y. b j (ltb-true j k y))
-    (λ n. let e : j ≡ k = omega (arith, ltb-false j k n) in subst (λ i. p i ≡ false) (sym e) h)
+below-next {p} = one-more {P = λ j. p j ≡ false}
 
 -- ---- some index below the bound passes
 unfoldable pub some : (ℕ → Bool) → ℕ → Bool

@@ -8,12 +8,12 @@ use lib.IntN.{ℤ}
 use lib.Signed.{ltZ}
 use Rattle.laws.specs.Tests.{all-at, all-yes, by-test, clash}
 use Rattle.laws.specs.Order.{eqZ-true, eqZ-same}
+use Rattle.laws.specs.Below.{four-more}
 use Rattle.laws.specs.Lowest.{Lowest, lowest-is}
 use Rattle.version.specs.declared.Version.{Version}
 use Rattle.version.specs.Record.{runNumber}
 use Rattle.table.specs.declared.Slot.{Slot}
 use Rattle.table.specs.Slots.{empty, slots, slotAt}
-use Rattle.table.specs.SlotLaws.{four-more}
 use Rattle.table.specs.Operations.{deleteOperation, live}
 use Rattle.table.specs.OperationLaws.{dead-empty, dead-delete}
 use Rattle.table.specs.Formed.{allZeros, wellFormed}
@@ -42,18 +42,21 @@ pub live-kept : (x : Slot) (v : Version) → live x ≡ true → free x v ≡ fa
 live-kept x v l =
     by-test (free x v) (λ y. free-cases x v y (λ e. clash l (rw e dead-empty)) (λ d. clash l (dead-delete x (d .operation)))) (λ n. n)
 
--- ---- a search passes four slots that are all live
+-- ---- a search has passed the slots below a place: none of them is free
+abbrev pub Taken : List ℤ → ℕ → Version → Type 0
+Taken t k v = (j : ℕ) → j < k → free (slotAt t j) v ≡ false
+
+-- it passes four slots that are all live
 pub record FourLive (t : List ℤ) (k : ℕ) : Type 0 where
-  pub room : k + 4 ≤ slots t
   pub first : live (slotAt t k) ≡ true
   pub second : live (slotAt t (k + 1)) ≡ true
   pub third : live (slotAt t (k + 2)) ≡ true
   pub fourth : live (slotAt t (k + 3)) ≡ true
 
-pub past-live : {t : List ℤ} {k : ℕ} (v : Version) → FourLive t k → ((j : ℕ) → j < k → free (slotAt t j) v ≡ false)
-    → (j : ℕ) → j < k + 4 → free (slotAt t j) v ≡ false
+pub past-live : {t : List ℤ} {k : ℕ} (v : Version) → FourLive t k → Taken t k v → Taken t (k + 4) v
 past-live {t} v f b =
-    four-more {p = λ i. free (slotAt t i) v} b (live-kept _ v (f .first)) (live-kept _ v (f .second)) (live-kept _ v (f .third)) (live-kept _ v (f .fourth))
+    four-more {P = λ i. free (slotAt t i) v ≡ false} b
+    (live-kept _ v (f .first)) (live-kept _ v (f .second)) (live-kept _ v (f .third)) (live-kept _ v (f .fourth))
 
 -- ---- a well formed slot that is not free is used, and if it is deleted then not by an older run
 pub record Busy (x : Slot) (v : Version) : Type 0 where

@@ -10,10 +10,11 @@ use borrow.Author.Tests.{ltb-true, ltb-false}
 use lib.IntN.{ℤ}
 use Rattle.laws.specs.Tests.{all, all-at, by-test, clash, not-yes, all-yes, all-no}
 use Rattle.laws.specs.Order.{eqZ, eqZ-true, eqZ-same}
+use Rattle.laws.specs.Below.{four-more}
 use Rattle.laws.specs.Lowest.{Lowest, lowest-is}
 use Rattle.table.specs.declared.Slot.{Slot}
 use Rattle.table.specs.Slots.{badTable, slots, slotAt, empty}
-use Rattle.table.specs.SlotLaws.{slotAt-past, four-more}
+use Rattle.table.specs.SlotLaws.{slotAt-past}
 use Rattle.table.specs.Operations.{emptyOperation}
 use Rattle.table.specs.OperationLaws.{dead-empty}
 use Rattle.searches.specs.Keys.{hasKey, keySlot, keyed, keyLive}
@@ -47,18 +48,20 @@ pub other-key : (x : Slot) (one two : ℤ) → eqZ (x .key2) two ≡ false → h
 unfolding hasKey
 other-key x one two h = all-no _ 2 h
 
--- ---- a search passes four slots whose second key words are all another
+-- ---- a search has passed the slots below a place: none of them has the key
+abbrev pub Keyless : List ℤ → ℕ → ℤ → ℤ → Type 0
+Keyless t k one two = (j : ℕ) → j < k → hasKey (slotAt t j) one two ≡ false
+
+-- it passes four slots whose second key words are all another
 pub record FourApart (t : List ℤ) (k : ℕ) (two : ℤ) : Type 0 where
-  pub room : k + 4 ≤ slots t
   pub first : eqZ (slotAt t k .key2) two ≡ false
   pub second : eqZ (slotAt t (k + 1) .key2) two ≡ false
   pub third : eqZ (slotAt t (k + 2) .key2) two ≡ false
   pub fourth : eqZ (slotAt t (k + 3) .key2) two ≡ false
 
-pub past-four : {t : List ℤ} {k : ℕ} {two : ℤ} (one : ℤ) → FourApart t k two → ((j : ℕ) → j < k → hasKey (slotAt t j) one two ≡ false)
-    → (j : ℕ) → j < k + 4 → hasKey (slotAt t j) one two ≡ false
-past-four {t} {k} {two} one f b =
-    four-more {p = λ i. hasKey (slotAt t i) one two} b
+pub past-four : {t : List ℤ} {k : ℕ} {two : ℤ} (one : ℤ) → FourApart t k two → Keyless t k one two → Keyless t (k + 4) one two
+past-four {t} {two = two} one f b =
+    four-more {P = λ i. hasKey (slotAt t i) one two ≡ false} b
     (other-key _ one two (f .first)) (other-key _ one two (f .second)) (other-key _ one two (f .third)) (other-key _ one two (f .fourth))
 
 -- the empty slot has no key

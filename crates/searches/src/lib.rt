@@ -1,15 +1,17 @@
 // The two searches of a table: for the key's slot, and for a free one. Each reads single words, those that tell slots apart, and
-// passes four slots at a time where it can. All here are leaves for our other crates: below tests 1 and 2 they require a table
-// and a record that pass them.
+// passes four slots at a time where none of the four can be the one; where one can, the four are looked at one by one, and so
+// are the last, fewer than four. All here are leaves for our other crates: below tests 1 and 2 they require a table and a record
+// that pass them.
 ghost use mathlib.Core.Path.{_≡_};
 ghost use mathlib.Core.Bool.{true, false};
-ghost use Prim.Native.Nat.{_<_};
+ghost use Prim.Native.Nat.{_+_, _≤_, _<_};
+ghost use Rattle.laws.specs.Lowest.{Lowest};
 ghost use Rattle.version.specs.Record.{badRecord};
 ghost use Rattle.table.specs.Slots.{badTable, slots, slotAt};
 ghost use Rattle.searches.specs.Keys.{hasKey, keySlot};
-ghost use Rattle.searches.specs.KeyLaws.{FourApart};
+ghost use Rattle.searches.specs.KeyLaws.{Keyless, FourApart};
 ghost use Rattle.searches.specs.Free.{longDeleted, free, freeSlot};
-ghost use Rattle.searches.specs.FreeLaws.{FourLive};
+ghost use Rattle.searches.specs.FreeLaws.{Taken, FourLive};
 use table::Slot;
 use version::Version;
 
@@ -32,15 +34,12 @@ fn has_key(table: &[i64], k: usize, one: i64, two: i64) -> bool
     true
 }
 
-// Whether there are four slots from a place on, and the second key word of none of them is that of the key.
+// Whether none of the four slots from a place on has that second key word.
 fn four_apart(table: &[i64], k: usize, two: i64) -> bool
     requires { ⌜ badTable (now table) ≡ false ⌝ }
-    requires { ⌜ k < slots (now table) ⌝ }
+    requires { ⌜ k + 4 ≤ slots (now table) ⌝ }
     ensures { λ r. ⌜ (r ≡ true → FourApart (now (table .entry)) k two) ⌝ }
 {
-    if k + 4 > table.len() / table::SLOT_WORDS {
-        return false;
-    }
     let at = k * table::SLOT_WORDS;
     (table[at + 3] != two)
         & (table[at + 11] != two)
@@ -48,24 +47,40 @@ fn four_apart(table: &[i64], k: usize, two: i64) -> bool
         & (table[at + 27] != two)
 }
 
-// The number of the key's slot; the number of slots where the key has none. Slots that lie apart are passed four at a time.
+// The lowest slot below an end that has the key, or the end, looked for from a place on below which none has it.
+fn key_from(table: &[i64], from: usize, to: usize, one: i64, two: i64) -> usize
+    requires { ⌜ badTable (now table) ≡ false ⌝ }
+    requires { ⌜ to ≤ slots (now table) ⌝ }
+    requires { ⌜ Keyless (now table) from one two ⌝ }
+    ensures { λ r. ⌜ Lowest (λ k. hasKey (slotAt (now (table .entry)) k) one two) to r ⌝ }
+{
+    let mut k = from;
+    while k < to {
+        if has_key(table, k, one, two) {
+            return k;
+        }
+        k += 1;
+    }
+    to
+}
+
+// The number of the key's slot; the number of slots where the key has none.
 pub fn key_slot(table: &[i64], one: i64, two: i64) -> usize
     requires { ⌜ badTable (now table) ≡ false ⌝ }
     ensures { λ r. ⌜ r ≡ keySlot (now (table .entry)) one two ⌝ }
 {
     let slots = table.len() / table::SLOT_WORDS;
     let mut k: usize = 0;
-    while k < slots {
-        if four_apart(table, k, two) {
-            k += 4;
-        } else {
-            if has_key(table, k, one, two) {
-                return k;
+    while k + 4 <= slots {
+        if !four_apart(table, k, two) {
+            let found = key_from(table, k, k + 4, one, two);
+            if found < k + 4 {
+                return found;
             }
-            k += 1;
         }
+        k += 4;
     }
-    slots
+    key_from(table, k, slots, one, two)
 }
 
 fn long_deleted(x: Slot, version: Version) -> bool
@@ -98,15 +113,12 @@ fn free_at(table: &[i64], k: usize, version: Version) -> bool
     is_free(table::slot_at(table, k), version)
 }
 
-// Whether there are four slots from a place on, and all of them are live.
+// Whether all of the four slots from a place on are live.
 fn four_live(table: &[i64], k: usize) -> bool
     requires { ⌜ badTable (now table) ≡ false ⌝ }
-    requires { ⌜ k < slots (now table) ⌝ }
+    requires { ⌜ k + 4 ≤ slots (now table) ⌝ }
     ensures { λ r. ⌜ (r ≡ true → FourLive (now (table .entry)) k) ⌝ }
 {
-    if k + 4 > table.len() / table::SLOT_WORDS {
-        return false;
-    }
     let at = k * table::SLOT_WORDS;
     table::lives(table[at + 1])
         & table::lives(table[at + 9])
@@ -114,7 +126,25 @@ fn four_live(table: &[i64], k: usize) -> bool
         & table::lives(table[at + 25])
 }
 
-// The number of the lowest free slot; the number of slots where none is free. Live slots are passed four at a time.
+// The lowest free slot below an end, or the end, looked for from a place on below which none is free.
+fn free_from(table: &[i64], from: usize, to: usize, version: Version) -> usize
+    requires { ⌜ badTable (now table) ≡ false ⌝ }
+    requires { ⌜ to ≤ slots (now table) ⌝ }
+    requires { ⌜ badRecord version ≡ false ⌝ }
+    requires { ⌜ Taken (now table) from version ⌝ }
+    ensures { λ r. ⌜ Lowest (λ k. free (slotAt (now (table .entry)) k) version) to r ⌝ }
+{
+    let mut k = from;
+    while k < to {
+        if free_at(table, k, version) {
+            return k;
+        }
+        k += 1;
+    }
+    to
+}
+
+// The number of the lowest free slot; the number of slots where none is free.
 pub fn free_slot(table: &[i64], version: Version) -> usize
     requires { ⌜ badTable (now table) ≡ false ⌝ }
     requires { ⌜ badRecord version ≡ false ⌝ }
@@ -122,15 +152,14 @@ pub fn free_slot(table: &[i64], version: Version) -> usize
 {
     let slots = table.len() / table::SLOT_WORDS;
     let mut place: usize = 0;
-    while place < slots {
-        if four_live(table, place) {
-            place += 4;
-        } else {
-            if free_at(table, place, version) {
-                return place;
+    while place + 4 <= slots {
+        if !four_live(table, place) {
+            let found = free_from(table, place, place + 4, version);
+            if found < place + 4 {
+                return found;
             }
-            place += 1;
         }
+        place += 4;
     }
-    slots
+    free_from(table, place, slots, version)
 }

@@ -1,5 +1,5 @@
 -- The laws of slots: the lengths of a table, the slot at a place past the end, a slot that was put, and that two tables which
--- agree slot by slot are one. Each goes by the eight words. And the step of a search by four places. Assumes nothing.
+-- agree slot by slot are one. Each goes by the eight words. Assumes nothing.
 use mathlib.Core.Path.{_≡_, refl, sym, ap, _∙_}
 use mathlib.Core.Bool.{Bool, false}
 use mathlib.Core.List.{List}
@@ -12,7 +12,6 @@ use lib.ListN.{length, getD, getD-replicate, length-replicate, replicate, List·
 use lib.Seq.{sets, length-sets}
 use borrow.Author.Tests.{eqb-true, eqb-false, ltb-false, ltb-true, eq-eqb, ne-eqb, le-ltb}
 use Rattle.laws.specs.Tests.{any, none-at, not-no, by-test}
-use Rattle.laws.specs.Lowest.{below-next}
 use Rattle.laws.specs.Stores.{sets-before, sets-past, sets-within, by-groups}
 use Rattle.table.specs.declared.Slot.{Slot}
 use Rattle.table.specs.Slots.{slotWords, slots, badTable, wordsOf, empty, word, slotAt, putSlot, freshTable}
@@ -132,12 +131,3 @@ zero-word n i =
 
 pub fresh-slot : (n k : ℕ) → slotAt (freshTable n) k ≡ empty
 fresh-slot n k = by-words (λ i b. word-at (freshTable n) k i b ∙ zero-word (n * slotWords) (k * slotWords + i) ∙ sym (getD-replicate slotWords i (pos 0) (pos 0) b))
-
--- ---- a search that has passed the places below k passes four more
-pub four-more : {p : ℕ → Bool} {k : ℕ} → ((j : ℕ) → j < k → p j ≡ false)
-    → p k ≡ false → p (k + 1) ≡ false → p (k + 2) ≡ false → p (k + 3) ≡ false → (j : ℕ) → j < k + 4 → p j ≡ false
-four-more {p} {k} b e f g h j l =
-    next (k + 3) (λ i m. next (k + 2) (λ i m. next (k + 1) (next k b e) f i (omega arith)) g i (omega arith)) h j (omega arith)
-  where
-    next : (n : ℕ) → ((i : ℕ) → i < n → p i ≡ false) → p n ≡ false → (i : ℕ) → i < n + 1 → p i ≡ false
-    next n = below-next {p = p}

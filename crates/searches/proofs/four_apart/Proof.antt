@@ -1,6 +1,6 @@
 -- `searches::four_apart` meets its contract: the four words that are read are the second key words of four slots, one after the
 -- other. Assumes nothing.
-use mathlib.Core.Path.{_≡_, refl, sym, _∙_}
+use mathlib.Core.Path.{_≡_, sym, _∙_}
 use mathlib.Core.Bool.{Bool, true, false, not}
 use mathlib.Core.List.{List, [], _∷_}
 use Prim.Native.Nat.{ℕ, _+_, _*_}
@@ -10,7 +10,7 @@ use lib.IntN.{ℤ}
 use mir.Syntax.{w64}
 use mir.Val.{SFits, ofZ}
 use borrow.Author.Needs.{needs}
-use Rattle.laws.specs.Tests.{all, all-at, clash, not-yes}
+use Rattle.laws.specs.Tests.{all, all-at, not-yes}
 use Rattle.laws.specs.Order.{eqZ}
 use Rattle.laws.specs.Bits.{eq-bits}
 use Rattle.table.specs.Slots.{word}
@@ -25,17 +25,16 @@ differs t i two = not (eqb (ofZ w64 (word t i)) (ofZ w64 two))
 other : (t : List ℤ) (i : ℕ) (two : ℤ) → SFits w64 (word t i) → SFits w64 two → differs t i two ≡ true → eqZ (word t i) two ≡ false
 other t i two f g h = sym (eq-bits (word t i) two f g) ∙ not-yes h
 
-returns-2 : tie.Need-returns-2
+returns : tie.Need-returns
 unfolding all
-returns-2 c h =
-    let s = c .before .before .before .before .before in
+returns c h =
+    let s = c .before .before .before .before in
     let t = s .args .table .now in
     let k = s .args .k in
     let two = s .args .two in
     let g = s .fits .two in
     let tests = differs t (k * 8 + 3) two ∷ differs t (k * 8 + 11) two ∷ differs t (k * 8 + 19) two ∷ differs t (k * 8 + 27) two ∷ [] in
     record {
-      room = omega arith;
       first = rw (key2-at t k) (other t _ two (record { sfits = c .before .before .before .result .given }) g (all-at tests 0 h));
       second = rw (key2-at t (k + 1), word-on t k 1 3) (other t _ two (record { sfits = c .before .before .result2 .given }) g (all-at tests 1 h));
       third = rw (key2-at t (k + 2), word-on t k 2 3) (other t _ two (record { sfits = c .before .result3 .given }) g (all-at tests 2 h));
@@ -45,9 +44,9 @@ returns-2 c h =
 pub four-apart-spec : {M : Type 1} → statement M
 four-apart-spec =
     tie.close
-    (tie.spec (λ c. search needs) (λ c h. clash h refl) (λ c. search needs)
+    (tie.spec (λ c. search needs)
     (λ c. search needs) (λ c. search needs) (λ c. search needs)
     (λ c. search needs) (λ c. search needs) (λ c. search needs)
     (λ c. search needs) (λ c. search needs) (λ c. search needs)
     (λ c. search needs) (λ c. search needs) (λ c. search needs)
-    returns-2)
+    returns)
