@@ -164,6 +164,23 @@ static void pair(const char *name, Body *probe, Body *hand) {
     measure(name, sides);
 }
 
+// Tables in which the second key word repeats, as a date does: it no longer tells slots apart by itself.
+static void date_cases(void) {
+    size_t counts[] = {64, 1024}, dates[] = {32, 4, 1};
+    for (int c = 0; c < 2; c++) {
+        fill(counts[c]);
+        for (int d = 0; d < 3; d++) {
+            char name[64];
+            for (size_t k = 0; k < slots; k++) {
+                table[k * SLOT + 2] = one = (int64_t)(k / dates[d]);
+                table[k * SLOT + 3] = two = (int64_t)(k % dates[d]);
+            }
+            snprintf(name, sizeof name, "read the last of %zu, dates %zu", slots, dates[d]);
+            pair(name, probe_key, hand_key);
+        }
+    }
+}
+
 static void other_cases(void) {
     fill(64);
     two = (int64_t)slots - 1;
@@ -186,6 +203,7 @@ int main(int count, char **words_given) {
     printf("%-34s %9s %18s %18s %18s %18s\n", "nanoseconds (library / it)", "library", "C", "lock + C", "SQLite", "LMDB");
     key_cases(words_given[1]);
     group_cases(words_given[1]);
+    date_cases();
     other_cases();
     return 0;
 }
