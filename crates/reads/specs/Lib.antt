@@ -8,3 +8,4 @@ pub mod RollUp
 pub mod Outcomes
 pub mod RollUpLaws
 pub mod RowExpiry
+pub mod RowExpiryLaws
