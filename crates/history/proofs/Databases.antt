@@ -2,31 +2,26 @@
 -- rolls up to the same sums, and loses the same row. Each by recursion on the permutation; a step on one or two rows goes by
 -- the tests on them alone. Assumes nothing.
 use mathlib.Core.Path.{_≡_, refl, sym, ap, ap₂, _∙_, subst}
-use mathlib.Core.Bool.{Bool, true, false, cond, _&&_, _||_}
+use mathlib.Core.Bool.{Bool, true, false, cond, _&&_, _||_, or-assoc, or-comm}
 use mathlib.Core.List.{[], _∷_, _++_, map, List·Permᴰ, Permᴰ·refl}
 use mathlib.Core.List as L
 use Prim.Native.Nat.{suc}
 use lib.IntN.{ℤ, _+ℤ_, +ℤ-comm, +ℤ-assoc}
 use Rattle.laws.specs.Tests.{by-test, clash}
+use Rattle.laws.specs.Repeats.{by-perm}
 use Rattle.laws.specs.Order.{eqZ, eqZ-true, eqZ-same}
 use Rattle.reads.specs.declared.Seen.{Seen}
 use Rattle.reads.specs.declared.Seen.the-variants as seen
-use Rattle.reads.specs.RollUp.{Tally, tally, counted}
-use Rattle.history.specs.Databases.{Row, Database, isKey, holds, without, found, asSeen}
+use Rattle.reads.specs.RollUp.{Tally, tally, tallied, counted}
+use Rattle.history.specs.Databases.{Row, Database, isKey, holds, without, found, asSeen, beside}
 
 -- ---- tests
-pub or-false : (a b : Bool) → a || b ≡ false → (a ≡ false) × (b ≡ false)
-or-false true b e = clash refl e
-or-false false b e = (refl, e)
+pub neither : (a b : Bool) → a || b ≡ false → (a ≡ false) × (b ≡ false)
+neither true b e = clash refl e
+neither false b e = (refl, e)
 
 or-swap : (a b c : Bool) → a || (b || c) ≡ b || (a || c)
-or-swap true true c = refl
-or-swap true false c = refl
-or-swap false b c = refl
-
-or-assoc : (a b c : Bool) → a || (b || c) ≡ (a || b) || c
-or-assoc true b c = refl
-or-assoc false b c = refl
+or-swap a b c = sym (or-assoc a b c) ∙ rw (or-comm a b) (or-assoc b a c)
 
 and-both : (a b : Bool) → a && b ≡ true → (a ≡ true) × (b ≡ true)
 and-both true b e = (refl, e)
@@ -50,50 +45,46 @@ same-key p q a b x y =
 
 -- ---- the same keys
 pub holds-perm : (p q : ℤ) {d e : Database} → List·Permᴰ d e → holds p q d ≡ holds p q e
-holds-perm p q L.List·Permᴰ·nil = refl
-holds-perm p q (L.List·Permᴰ·cons same rest) = ap₂ (λ r b. isKey p q r || b) same (holds-perm p q rest)
-holds-perm p q (L.List·Permᴰ·swap {a = a} {b = b} {l = l} e f) =
-    or-swap (isKey p q a) (isKey p q b) (holds p q l) ∙ ap₂ (λ x y. isKey p q x || (isKey p q y || holds p q l)) f e
-holds-perm p q (L.List·Permᴰ·trans x y) = holds-perm p q x ∙ holds-perm p q y
+holds-perm p q =
+    by-perm (λ d e. holds p q d ≡ holds p q e) refl (λ r d e. ap (λ b. isKey p q r || b))
+    (λ a b d. or-swap (isKey p q a) (isKey p q b) (holds p q d)) (λ d e f. _∙_)
 
 pub holds-append : (p q : ℤ) (d e : Database) → holds p q (d ++ e) ≡ holds p q d || holds p q e
 holds-append p q [] e = refl
-holds-append p q (r ∷ d) e = ap (λ b. isKey p q r || b) (holds-append p q d e) ∙ or-assoc (isKey p q r) (holds p q d) (holds p q e)
+holds-append p q (r ∷ d) e = rw (holds-append p q d e, or-assoc)
 
 -- ---- the row of a key is gone
 pub without-absent : (p q : ℤ) (d : Database) → holds p q d ≡ false → without p q d ≡ d
 without-absent p q [] h = refl
 without-absent p q (r ∷ d) h =
-    let n = or-false (isKey p q r) (holds p q d) h in
+    let n = neither (isKey p q r) (holds p q d) h in
     ap₂ (λ b l. cond b l (r ∷ l)) (n .0) (without-absent p q d (n .1))
-
-cond-append : (b : Bool) (r : Row) (d e : Database) → cond b (d ++ e) (r ∷ d ++ e) ≡ cond b d (r ∷ d) ++ e
-cond-append true r d e = refl
-cond-append false r d e = refl
 
 pub without-append : (p q : ℤ) (d e : Database) → without p q (d ++ e) ≡ without p q d ++ without p q e
 without-append p q [] e = refl
-without-append p q (r ∷ d) e =
-    ap (λ l. cond (isKey p q r) l (r ∷ l)) (without-append p q d e) ∙ cond-append (isKey p q r) r (without p q d) (without p q e)
+without-append p q (r ∷ d) e = by-test (isKey p q r) (λ y. rw y (without-append p q d e)) (λ n. rw n (ap (λ l. r ∷ l) (without-append p q d e)))
 
-pub cond-perm : (t : Bool) (r : Row) {d e : Database} → List·Permᴰ d e → List·Permᴰ (cond t d (r ∷ d)) (cond t e (r ∷ e))
-cond-perm true r x = x
-cond-perm false r x = L.List·Permᴰ·cons refl x
+-- ---- what is left where a test on each row drops some, in another order
+module _ (drops : Row → Bool) (left : Database → Database) (none : left [] ≡ []) (row : (r : Row) (d : Database) → left (r ∷ d) ≡ cond (drops r) (left d) (r ∷ left d)) where
+  left-head : (r : Row) (d e : Database) → List·Permᴰ (left d) (left e) → List·Permᴰ (left (r ∷ d)) (left (r ∷ e))
+  left-head r d e x = rw (row r d, row r e) (by-test (drops r) (λ y. rw y x) (λ n. rw n (L.List·Permᴰ·cons refl x)))
 
-pub cond-swap : (t u : Bool) (a b : Row) (d : Database)
-    → List·Permᴰ (cond t (cond u d (b ∷ d)) (a ∷ cond u d (b ∷ d))) (cond u (cond t d (a ∷ d)) (b ∷ cond t d (a ∷ d)))
-cond-swap true u a b d = Permᴰ·refl _
-cond-swap false true a b d = Permᴰ·refl _
-cond-swap false false a b d = L.List·Permᴰ·swap refl refl
+  left-swap : (a b : Row) (d : Database) → List·Permᴰ (left (a ∷ b ∷ d)) (left (b ∷ a ∷ d))
+  left-swap a b d = rw (row a (b ∷ d), row b d, row b (a ∷ d), row a d) (go (drops a) (drops b))
+    where
+      go : (t u : Bool) → List·Permᴰ (cond t (cond u (left d) (b ∷ left d)) (a ∷ cond u (left d) (b ∷ left d))) (cond u (cond t (left d) (a ∷ left d)) (b ∷ cond t (left d) (a ∷ left d)))
+      go true u = Permᴰ·refl _
+      go false true = Permᴰ·refl _
+      go false false = L.List·Permᴰ·swap refl refl
+
+  pub left-perm : {d e : Database} → List·Permᴰ d e → List·Permᴰ (left d) (left e)
+  left-perm = by-perm (λ d e. List·Permᴰ (left d) (left e)) (rw none L.List·Permᴰ·nil) left-head left-swap (λ d e f. L.List·Permᴰ·trans)
 
 pub without-perm : (p q : ℤ) {d e : Database} → List·Permᴰ d e → List·Permᴰ (without p q d) (without p q e)
-without-perm p q L.List·Permᴰ·nil = L.List·Permᴰ·nil
-without-perm p q (L.List·Permᴰ·cons {a = a} {l₁ = d} {l₂ = e} same rest) =
-    subst (λ r. List·Permᴰ (without p q (a ∷ d)) (without p q (r ∷ e))) same (cond-perm (isKey p q a) a (without-perm p q rest))
-without-perm p q (L.List·Permᴰ·swap {a = a} {b = b} {l = l} e f) =
-    subst (λ d. List·Permᴰ (without p q (a ∷ b ∷ l)) (without p q d)) (ap₂ (λ x y. x ∷ y ∷ l) f e)
-    (cond-swap (isKey p q a) (isKey p q b) a b (without p q l))
-without-perm p q (L.List·Permᴰ·trans x y) = L.List·Permᴰ·trans (without-perm p q x) (without-perm p q y)
+without-perm p q = left-perm (isKey p q) (without p q) refl (λ r d. refl)
+
+pub beside-perm : (a : Database) {d e : Database} → List·Permᴰ d e → List·Permᴰ (beside a d) (beside a e)
+beside-perm a = left-perm (λ r. holds (r .key1) (r .key2) a) (beside a) refl (λ r d. refl)
 
 -- ---- no key twice
 abbrev pub NoRepeat : Database → Type 0
@@ -109,18 +100,17 @@ apart a b n =
 pub norepeat-perm : {d e : Database} → List·Permᴰ d e → NoRepeat d → NoRepeat e
 norepeat-perm L.List·Permᴰ·nil n = n
 norepeat-perm (L.List·Permᴰ·cons {a = a} {l₂ = e} same rest) n =
-    subst (λ r. NoRepeat (r ∷ e)) same (sym (holds-perm _ _ rest) ∙ n .0, norepeat-perm rest (n .1))
+    rw (← same) (sym (holds-perm _ _ rest) ∙ n .0, norepeat-perm rest (n .1))
 norepeat-perm (L.List·Permᴰ·swap {a = a} {b = b} {l = l} e f) n =
-    let m = or-false (isKey (a .key1) (a .key2) b) (holds (a .key1) (a .key2) l) (n .0) in
-    subst NoRepeat (ap₂ (λ x y. x ∷ y ∷ l) f e)
-    (ap₂ _||_ (apart a b (m .0)) (n .1 .0), (m .1, n .1 .1))
+    let m = neither _ _ (n .0) in
+    rw (← e, ← f) (ap₂ _||_ (apart a b (m .0)) (n .1 .0), (m .1, n .1 .1))
 norepeat-perm (L.List·Permᴰ·trans x y) n = norepeat-perm y (norepeat-perm x n)
 
 -- ---- the same row is found
 pub found-absent : (p q : ℤ) (d : Database) → holds p q d ≡ false → found p q d ≡ seen.NoRow
 found-absent p q [] h = refl
 found-absent p q (r ∷ d) h =
-    let n = or-false (isKey p q r) (holds p q d) h in
+    let n = neither (isKey p q r) (holds p q d) h in
     ap₂ (λ b x. cond b (asSeen r) x) (n .0) (found-absent p q d (n .1))
 
 -- two rows in the other order, where not both have the key
@@ -134,9 +124,7 @@ pub found-perm : (p q : ℤ) {d e : Database} → List·Permᴰ d e → NoRepeat
 found-perm p q L.List·Permᴰ·nil n = refl
 found-perm p q (L.List·Permᴰ·cons same rest) n = ap₂ (λ r x. cond (isKey p q r) (asSeen r) x) same (found-perm p q rest (n .1))
 found-perm p q (L.List·Permᴰ·swap {a = a} {b = b} {l = l} e f) n =
-    let m = or-false (isKey (a .key1) (a .key2) b) (holds (a .key1) (a .key2) l) (n .0) in
-    found-swap (isKey p q a) (isKey p q b) a b (found p q l) (λ x y. clash (same-key p q a b x y) (m .0))
-    ∙ ap (found p q) (ap₂ (λ x y. x ∷ y ∷ l) f e)
+    rw (← e, ← f) (found-swap (isKey p q a) (isKey p q b) a b (found p q l) (λ x y. clash (same-key p q a b x y) (neither _ _ (n .0) .0)))
 found-perm p q (L.List·Permᴰ·trans x y) n = found-perm p q x n ∙ found-perm p q y (norepeat-perm x n)
 
 -- ---- the same sums
@@ -157,10 +145,6 @@ tally-swap true false a b c d n = refl
 tally-swap false u a b c d n = refl
 
 pub tally-perm : (one : ℤ) {d e : Database} → List·Permᴰ d e → tally one (map asSeen d) ≡ tally one (map asSeen e)
-tally-perm one L.List·Permᴰ·nil = refl
-tally-perm one (L.List·Permᴰ·cons same rest) =
-    ap₂ (λ r n. cond (eqZ (r .key1) one) (counted (r .first) (r .second) n) n) same (tally-perm one rest)
-tally-perm one (L.List·Permᴰ·swap {a = a} {b = b} {l = l} e f) =
-    tally-swap (eqZ (a .key1) one) (eqZ (b .key1) one) (a .first) (a .second) (b .first) (b .second) (tally one (map asSeen l))
-    ∙ ap (λ d. tally one (map asSeen d)) (ap₂ (λ x y. x ∷ y ∷ l) f e)
-tally-perm one (L.List·Permᴰ·trans x y) = tally-perm one x ∙ tally-perm one y
+tally-perm one =
+    by-perm (λ d e. tally one (map asSeen d) ≡ tally one (map asSeen e)) refl (λ r d e. ap (tallied one (asSeen r)))
+    (λ a b d. tally-swap (eqZ (a .key1) one) (eqZ (b .key1) one) (a .first) (a .second) (b .first) (b .second) (tally one (map asSeen d))) (λ d e f. _∙_)

@@ -38,7 +38,7 @@ use Rattle.history.specs.Databases.{Row, Database, row, isKey, holds, be
 use Rattle.history.specs.Followed.{Followed, current, databaseAt, accepted}
 use Rattle.history.specs.Histories.{World}
 use Rattle.history.specs.Demand.{rowsOf, Fullness}
-use Rattle.history.proofs.Databases.{holds-perm, holds-append, is-key, cond-perm, cond-swap, or-false, key-of}
+use Rattle.history.proofs.Databases.{holds-perm, holds-append, is-key, beside-perm, neither, key-of}
 use Rattle.history.proofs.Rows.{rowsAt, restAt, focus, rows-lack, rest-lacks}
 use Rattle.history.proofs.Invariant.{Inv, lowOf, low-is}
 use Rattle.history.proofs.Steps.{InvW}
@@ -48,15 +48,6 @@ use Rattle.history.proofs.Changing.{or-right, runs, running-rows, live-
 beside-same : (a a′ b : Database) → ((p q : ℤ) → holds p q a ≡ holds p q a′) → beside a b ≡ beside a′ b
 beside-same a a′ [] same = refl
 beside-same a a′ (r ∷ b) same = ap₂ (λ t l. cond t l (r ∷ l)) (same (r .key1) (r .key2)) (beside-same a a′ b same)
-
-beside-perm : (a : Database) {d e : Database} → List·Permᴰ d e → List·Permᴰ (beside a d) (beside a e)
-beside-perm a L.List·Permᴰ·nil = L.List·Permᴰ·nil
-beside-perm a (L.List·Permᴰ·cons {a = r} {l₁ = d} {l₂ = e} same rest) =
-    subst (λ x. List·Permᴰ (beside a (r ∷ d)) (beside a (x ∷ e))) same (cond-perm (holds (r .key1) (r .key2) a) r (beside-perm a rest))
-beside-perm a (L.List·Permᴰ·swap {a = r} {b = q} {l = l} e f) =
-    subst (λ d. List·Permᴰ (beside a (r ∷ q ∷ l)) (beside a d)) (ap₂ (λ x y. x ∷ y ∷ l) f e)
-    (cond-swap (holds (r .key1) (r .key2) a) (holds (q .key1) (q .key2) a) r q (beside a l))
-beside-perm a (L.List·Permᴰ·trans x y) = L.List·Permᴰ·trans (beside-perm a x) (beside-perm a y)
 
 -- two databases in another order hold as many keys together, and the same
 together-length : {a a′ b b′ : Database} → List·Permᴰ a a′ → List·Permᴰ b b′ → length (together a b) ≡ length (together a′ b′)
@@ -218,7 +209,7 @@ module _ (n : ℕ) (t : List ℤ) (v : Version) (g : Followed) (i : Inv n t v g)
         → Full t v (i .whole) (i .known) (runs n t v g i a) one two
     is-full (counted, without) =
         let all = all-counted t (v .current) (runNumber v) n (sym both-count ∙ counted) in
-        let neither = or-false _ _ (sym (both-holds one two) ∙ without) in
+        let neither = neither _ _ (sym (both-holds one two) ∙ without) in
         record {
           absent = by-test (ltb (keySlot t one two) (slots t))
               (λ y. let k = keySlot t one two in
