@@ -19,7 +19,7 @@ use Rattle.table.specs.Formed.{wellFormed}
 use Rattle.reads.specs.declared.Seen.{Seen}
 use Rattle.reads.specs.declared.Seen.the-variants.{Row, NoRow, Refused}
 use Rattle.reads.specs.Table1.{shown}
-use Rattle.reads.specs.ShownLaws.{shown-cases}
+use Rattle.reads.specs.ShownLaws.{shown-own}
 use Rattle.reads.specs.Table1Laws.{LawfulRow, shown-lawful}
 use Rattle.reads.specs.RollUp.{Tally, counted, tallied, tally, seen}
 
@@ -56,12 +56,12 @@ tallied-bounded one (Refused r) n g h = bounded-more (omega arith) h
 
 -- ---- what is shown of a slot has the slot's first key word, which alone says whether it counts
 pub tallied-other : (s one : ℤ) (x : Slot) (n : Tally) → eqZ (x .key1) one ≡ false → tallied one (shown s x) n ≡ n
-tallied-other s one x n h = shown-cases (λ r. tallied one r n ≡ n) s x (λ u. rw h) (λ u. rw h) refl
+tallied-other s one x n h = shown-own (λ r. tallied one r n ≡ n) s x (λ u a b. rw h) refl
 
 pub tallied-own : (s one : ℤ) (x : Slot) (n : Tally) {k1 k2 a b : ℤ} → eqZ (x .key1) one ≡ true → shown s x ≡ Row k1 k2 a b
     → tallied one (shown s x) n ≡ counted a b n
 tallied-own s one x n {k1} {k2} {a} {b} h =
-    shown-cases (λ r. r ≡ Row k1 k2 a b → tallied one r n ≡ counted a b n) s x (λ u e. rw h (cc)) (λ u e. rw h (cc)) (λ e. cc)
+    shown-own (λ r. r ≡ Row k1 k2 a b → tallied one r n ≡ counted a b n) s x (λ u c d e. rw h (cc)) (λ e. cc)
 
 -- the first k slots, all well formed
 pub tally-bounded : (t : List ℤ) (v : Version) (s one : ℤ) (k : ℕ) → ((j : ℕ) → j < k → wellFormed (slotAt t j) v ≡ true)

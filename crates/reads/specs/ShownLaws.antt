@@ -12,7 +12,7 @@ use Rattle.table.specs.declared.Slot.{Slot}
 use Rattle.table.specs.Operations.{emptyOperation, column}
 use Rattle.table.specs.OperationLaws.{column-empty}
 use Rattle.reads.specs.declared.Seen.{Seen}
-use Rattle.reads.specs.declared.Seen.the-variants.{NoRow}
+use Rattle.reads.specs.declared.Seen.the-variants.{Row, NoRow}
 use Rattle.reads.specs.Table1.{table1, readCurrent, readOld, currentRow, oldRow, readCell, shown}
 
 -- what a cell reads, by the tests on it
@@ -36,6 +36,11 @@ shown-cases P s x c o n =
     (λ y. rw (column-empty x (eqZ-true _ _ y), none-read x (leZ (x .run) s)) n)
     (λ u. let cell = cellAt table1 (leZ (x .run) s) (column x) in
     cell-cases P x (eqb cell readCurrent) (eqb cell readOld) (c u) (o u) n)
+
+-- a row of the slot's key, or no row
+pub shown-own : (P : Seen → Type 0) (s : ℤ) (x : Slot) → (eqZ (x .operation) emptyOperation ≡ false → (a b : ℤ) → P (Row (x .key1) (x .key2) a b))
+    → P NoRow → P (shown s x)
+shown-own P s x row n = shown-cases P s x (λ u. row u _ _) (λ u. row u _ _) n
 
 -- two sessions not before a slot's run see the same of it
 pub shown-later : (s s′ : ℤ) (x : Slot) → leZ (x .run) s ≡ true → leZ (x .run) s′ ≡ true → shown s′ x ≡ shown s x
