@@ -1,7 +1,7 @@
 -- Databases in another order: a permutation of rows holds the same keys, and where no key stands twice it finds the same rows,
 -- rolls up to the same sums, and loses the same row. Each by recursion on the permutation; a step on one or two rows goes by
 -- the tests on them alone. Assumes nothing.
-use mathlib.Core.Path.{_≡_, refl, sym, ap, ap₂, _∙_, subst}
+use mathlib.Core.Path.{_≡_, refl, sym, ap, ap₂, _∙_}
 use mathlib.Core.Bool.{Bool, true, false, cond, _&&_, _||_, or-assoc, or-comm}
 use mathlib.Core.List.{[], _∷_, _++_, map, List·Permᴰ, Permᴰ·refl}
 use mathlib.Core.List as L
@@ -70,12 +70,11 @@ module _ (drops : Row → Bool) (left : Database → Database) (none : left [] �
   left-head r d e x = rw (row r d, row r e) (by-test (drops r) (λ y. rw y x) (λ n. rw n (L.List·Permᴰ·cons refl x)))
 
   left-swap : (a b : Row) (d : Database) → List·Permᴰ (left (a ∷ b ∷ d)) (left (b ∷ a ∷ d))
-  left-swap a b d = rw (row a (b ∷ d), row b d, row b (a ∷ d), row a d) (go (drops a) (drops b))
-    where
-      go : (t u : Bool) → List·Permᴰ (cond t (cond u (left d) (b ∷ left d)) (a ∷ cond u (left d) (b ∷ left d))) (cond u (cond t (left d) (a ∷ left d)) (b ∷ cond t (left d) (a ∷ left d)))
-      go true u = Permᴰ·refl _
-      go false true = Permᴰ·refl _
-      go false false = L.List·Permᴰ·swap refl refl
+  left-swap a b d =
+      rw (row a (b ∷ d), row b d, row b (a ∷ d), row a d)
+      (by-test (drops a)
+      (λ y. rw y (Permᴰ·refl _))
+      (λ n. rw n (by-test (drops b) (λ y. rw y (Permᴰ·refl _)) (λ m. rw m (L.List·Permᴰ·swap refl refl)))))
 
   pub left-perm : {d e : Database} → List·Permᴰ d e → List·Permᴰ (left d) (left e)
   left-perm = by-perm (λ d e. List·Permᴰ (left d) (left e)) (rw none L.List·Permᴰ·nil) left-head left-swap (λ d e f. L.List·Permᴰ·trans)
@@ -112,6 +111,16 @@ found-absent p q [] h = refl
 found-absent p q (r ∷ d) h =
     let n = neither (isKey p q r) (holds p q d) h in
     ap₂ (λ b x. cond b (asSeen r) x) (n .0) (found-absent p q d (n .1))
+
+-- a key is held exactly when a row of it is found
+abbrev pub shows : Seen → Bool
+shows (seen.Row one two a b) = true
+shows seen.NoRow = false
+shows (seen.Refused n) = false
+
+pub held-found : (p q : ℤ) (d : Database) → holds p q d ≡ shows (found p q d)
+held-found p q [] = refl
+held-found p q (r ∷ d) = by-test (isKey p q r) (λ y. rw y refl) (λ n. rw n (held-found p q d))
 
 -- two rows in the other order, where not both have the key
 found-swap : (t u : Bool) (a b : Row) (x : Seen) → (t ≡ true → u ≡ true → ⊥)

@@ -1,55 +1,45 @@
 -- Demand 3, whole: every statement of `Demand` holds after every history of a fresh table of any lawful size. The invariant
 -- holds there, and each statement is a theorem over it. Assumes nothing.
-use mathlib.Core.Path.{_≡_, refl, sym, ap, _∙_}
+use mathlib.Core.Path.{_≡_, sym, ap, _∙_}
 use mathlib.Core.Logic.{∥∥₁-elim}
-use mathlib.Core.List.{List, [], _∷_, Perm, map}
+use mathlib.Core.List.{List, [], Perm, map}
 use Prim.Native.Nat.{ℕ}
 use native.Mathlib.Nat.{ℕ-set}
 use native.Mathlib.Omega.{arith}
 use lib.IntN.{ℤ, ℤ-set}
-use Rattle.reads.specs.RollUp.{tally, sums}
+use Rattle.reads.specs.declared.Rolled.the-variants.{Sums}
+use Rattle.reads.specs.RollUp.{Tally, tally}
 use Rattle.calls.specs.Calls.{Call}
 use Rattle.calls.specs.Calls as answer
 use Rattle.history.specs.Databases.{Database, asSeen, rolledUp}
 use Rattle.history.specs.Followed.{databaseAt}
-use Rattle.history.specs.Histories.{NoLoad, World, fresh, next, after}
+use Rattle.history.specs.Histories.{NoLoad, World, fresh, after}
 use Rattle.history.specs.Demand.{Committed, Incident, Demand3}
 use Rattle.history.proofs.Databases.{tally-perm}
-use Rattle.history.proofs.Steps.{InvW, next-inv, after-inv, history-inv}
+use Rattle.history.proofs.Invariant.{InvW}
 use Rattle.history.proofs.Answers.{key-reads, roll-ups, slot-reads}
-use Rattle.history.proofs.Sessions.{next-grows, next-committed, sessions}
+use Rattle.history.proofs.Steps.{grown, after-step, history-inv}
+use Rattle.history.proofs.Sessions.{sessions}
 use Rattle.history.proofs.Changing.{changes-kept}
 use Rattle.history.proofs.Fullness.{fullness}
 
 -- ---- what is committed stays, over a whole history
-after-committed : (n : ℕ) (h : List Call) (w : World) → NoLoad h → InvW n w → (s : ℕ) → Committed (w .told) s → Committed (after h w .told) s
-after-committed n [] w loads i s c = c
-after-committed n (call ∷ h) w loads i s c = after-committed n h (next call w) (loads .1) (next-inv n w i call (loads .0)) s (next-committed n w i s c call)
-
-databases-stay : (n : ℕ) (h : List Call) (w : World) → NoLoad h → InvW n w → (s : ℕ) → Committed (w .told) s → databaseAt (after h w .told) s ≡ databaseAt (w .told) s
-databases-stay n [] w loads i s c = refl
-databases-stay n (call ∷ h) w loads i s c =
-    databases-stay n h (next call w) (loads .1) (next-inv n w i call (loads .0)) s (next-committed n w i s c call) ∙ next-grows n w i call .databases s c
+pub databases-stay : (n : ℕ) (h : List Call) (w : World) → NoLoad h → InvW n w → (s : ℕ) → Committed (w .told) s → databaseAt (after h w .told) s ≡ databaseAt (w .told) s
+databases-stay n h w none i = after-step n w i h none .grows .databases
 
 -- ---- the incident
--- a permutation rolls up to the same
+-- a permutation rolls up to the same, number by number
 rolled-same : (one : ℤ) (d e : Database) → Perm d e → rolledUp one d ≡ rolledUp one e
-rolled-same one d e p = ap sums (λ i. record { count = count i; first = first i; second = second i })
+rolled-same one d e p i = Sums (same ℕ-set (λ n. n .count) i) (same ℤ-set (λ n. n .first) i) (same ℤ-set (λ n. n .second) i)
   where
-    count : tally one (map asSeen d) .count ≡ tally one (map asSeen e) .count
-    count = ∥∥₁-elim p (ℕ-set _ _) (λ q. ap (λ n. n .count) (tally-perm one q))
-
-    first : tally one (map asSeen d) .first ≡ tally one (map asSeen e) .first
-    first = ∥∥₁-elim p (ℤ-set _ _) (λ q. ap (λ n. n .first) (tally-perm one q))
-
-    second : tally one (map asSeen d) .second ≡ tally one (map asSeen e) .second
-    second = ∥∥₁-elim p (ℤ-set _ _) (λ q. ap (λ n. n .second) (tally-perm one q))
+    same : {B : Type 0} → IsSet B → (f : Tally → B) → f (tally one (map asSeen d)) ≡ f (tally one (map asSeen e))
+    same set f = ∥∥₁-elim p (set _ _) (λ q. ap f (tally-perm one q))
 
 pub incident : (n : ℕ) (w : World) → InvW n w → Incident n w
 incident n w i s c turns loads once ok h none no-run region =
-    roll-ups n (after h w) (after-inv n h w none i) s (after-committed n h w none i s c) region .kept no-run
-    ∙ ap (λ d. answer.rolled (rolledUp region d)) (databases-stay n h w none i s c)
-    ∙ sym (ap answer.rolled (rolled-same region _ _ (sessions n w i s c turns loads once ok)))
+    let x = after-step n w i h none in
+    roll-ups n (after h w) (x .inv) s (grown (x .grows) c) region .kept no-run
+    ∙ ap answer.rolled (ap (rolledUp region) (databases-stay n h w none i s c) ∙ sym (rolled-same region _ _ (sessions n w i s c turns loads once ok)))
 
 -- ---- all of it
 pub demand3 : Demand3

@@ -1,249 +1,202 @@
--- When an insert is refused as full: a slot is not free exactly when it shows a row at the current version or at the running
--- one, and then its key is one of those that the two databases hold together; so these number the slots exactly when none is
--- free. Assumes nothing.
-use mathlib.Core.Path.{_≡_, refl, sym, ap, ap₂, _∙_, subst}
-use mathlib.Core.Bool.{Bool, true, false, cond, _||_}
+-- When an insert is refused as full: the keys that the current database and the running one hold together are those of the slots
+-- that show a row at one of the two versions, and these are the slots that are not free; so they number the slots exactly when
+-- none is free. Assumes nothing.
+use mathlib.Core.Path.{_≡_, refl, sym, ap, ap₂, _∙_}
+use mathlib.Core.Bool.{true, false, cond, not, _||_, or-true}
 use mathlib.Core.Logic.{⊎-elim}
-use mathlib.Core.List.{List, [], _∷_, _++_, List·Permᴰ}
+use mathlib.Core.List.{List, [], _∷_, _++_, List·Permᴰ, Permᴰ·symm, Permᴰ·append-left, Permᴰ·append-right}
 use mathlib.Core.List as L
-use Prim.Native.Nat.{ℕ, zero, suc, _+_, _-_, _≤_, _<_}
+use Prim.Native.Nat.{ℕ, zero, suc, _+_, _≤_, _<_}
 use native.Mathlib.Omega.{arith}
 use lib.Dec.{eqb, ltb}
 use lib.IntN.{ℤ}
 use lib.ListN.{length, length-append}
 use borrow.Author.Tests.{ltb-true, ltb-false, eqb-true, eqb-false}
-use Rattle.laws.specs.Tests.{by-test, clash}
+use Rattle.laws.specs.Tests.{by-test, clash, not-yes}
 use Rattle.laws.specs.Order.{eqZ}
 use Rattle.laws.specs.Repeats.{permᴰ-length}
 use Rattle.laws.specs.First.{skip, hit, done}
 use Rattle.version.specs.declared.Version.{Version}
 use Rattle.version.specs.Record.{runNumber}
+use Rattle.table.specs.declared.Slot.{Slot}
 use Rattle.table.specs.Slots.{slots, slotAt}
 use Rattle.table.specs.Operations.{emptyOperation}
 use Rattle.searches.specs.Keys.{keySlot}
-use Rattle.searches.specs.KeyLaws.{has-key, keyed-has, keySlot-is, absent-nowhere}
+use Rattle.searches.specs.KeyLaws.{Keyed, has-key, keyed-has, keySlot-is, absent-nowhere}
 use Rattle.searches.specs.Free.{free}
 use Rattle.reads.specs.declared.Seen.{Seen}
 use Rattle.reads.specs.declared.Seen.the-variants as seen
 use Rattle.reads.specs.Table1.{shown}
-use Rattle.reads.specs.ShownLaws.{shown-cases}
-use Rattle.changes.specs.declared.Placed.the-variants as placed
-use Rattle.changes.specs.Whole.{Distinct, only}
+use Rattle.reads.specs.ShownLaws.{shown-own}
+use Rattle.changes.specs.Whole.{Distinct}
 use Rattle.changes.specs.Accepted.{free-unseen}
 use Rattle.changes.specs.Refused.{Full, full, not-full, busy-seen, insert-refused}
 use Rattle.changes.specs.Outcomes.{insert-refuses, insert-accepts}
 use Rattle.changes.specs.Insert.{noSlot}
 use Rattle.calls.specs.Calls as answer
-use Rattle.history.specs.Databases.{Row, Database, row, isKey, holds, beside, together}
+use Rattle.history.specs.Databases.{Database, row, holds, beside, together}
 use Rattle.history.specs.Followed.{Followed, current, databaseAt, accepted}
 use Rattle.history.specs.Histories.{World}
-use Rattle.history.specs.Demand.{rowsOf, Fullness}
-use Rattle.history.proofs.Databases.{holds-perm, holds-append, is-key, beside-perm, neither, key-of}
-use Rattle.history.proofs.Rows.{rowsAt, restAt, focus, rows-lack, rest-lacks}
-use Rattle.history.proofs.Invariant.{Inv, lowOf, low-is}
-use Rattle.history.proofs.Steps.{InvW}
-use Rattle.history.proofs.Changing.{or-right, runs, running-rows, live-is}
+use Rattle.history.specs.Demand.{rowsOf, upTo, Fullness}
+use Rattle.history.proofs.Databases.{holds-perm, holds-append, beside-perm, is-key, shows, held-found}
+use Rattle.history.proofs.Rows.{rowsFor, shownAt, rowsAt, front, focus, own-key, rows-lack, slot-lacks, found-rows}
+use Rattle.history.proofs.Invariant.{Inv, InvW, runs, low-rows, high-rows}
+use Rattle.history.proofs.Changing.{live-is}
 
--- ---- keys beside others, in another order
+-- ---- two databases in another order hold the same keys together
 beside-same : (a a′ b : Database) → ((p q : ℤ) → holds p q a ≡ holds p q a′) → beside a b ≡ beside a′ b
 beside-same a a′ [] same = refl
 beside-same a a′ (r ∷ b) same = ap₂ (λ t l. cond t l (r ∷ l)) (same (r .key1) (r .key2)) (beside-same a a′ b same)
 
--- two databases in another order hold as many keys together, and the same
-together-length : {a a′ b b′ : Database} → List·Permᴰ a a′ → List·Permᴰ b b′ → length (together a b) ≡ length (together a′ b′)
-together-length {a} {a′} {b} {b′} x y =
-    length-append a (beside a b)
-    ∙ ap₂ _+_ (permᴰ-length x) (ap length (beside-same a a′ b (λ p q. holds-perm p q x)) ∙ permᴰ-length (beside-perm a′ y))
-    ∙ sym (length-append a′ (beside a′ b′))
+together-perm : {a a′ b b′ : Database} → List·Permᴰ a a′ → List·Permᴰ b b′ → List·Permᴰ (together a b) (together a′ b′)
+together-perm {a} {a′} {b} {b′} x y =
+    rw (beside-same a a′ b (λ p q. holds-perm p q x)) (L.List·Permᴰ·trans (Permᴰ·append-right (beside a′ b) x) (Permᴰ·append-left a′ (beside-perm a′ y)))
 
--- a key is held together exactly when one holds it
-beside-holds : (p q : ℤ) (a b : Database) → holds p q a ≡ false → holds p q (beside a b) ≡ holds p q b
-beside-holds p q a [] h = refl
-beside-holds p q a (r ∷ b) h =
-    by-test (holds (r .key1) (r .key2) a)
-    (λ y. ap (λ t. holds p q (cond t (beside a b) (r ∷ beside a b))) y
-    ∙ beside-holds p q a b h
-    ∙ ap (λ t. t || holds p q b)
-    (sym (by-test (isKey p q r) (λ x. let k = key-of p q r x in clash (ap₂ (λ u w. holds u w a) (sym (k .0)) (sym (k .1)) ∙ y) h) (λ m. m))))
-    (λ m. ap (λ t. holds p q (cond t (beside a b) (r ∷ beside a b))) m ∙ ap (λ t. isKey p q r || t) (beside-holds p q a b h))
+-- ---- slot by slot: what the lower version shows, and else what the upper does
+abbrev either : Seen → Seen → Seen
+either low high = cond (shows low) low high
 
-pub together-holds : (p q : ℤ) (a b : Database) → holds p q (together a b) ≡ holds p q a || holds p q b
-together-holds p q a b =
-    holds-append p q a (beside a b)
-    ∙ by-test (holds p q a) (λ y. ap (λ t. t || holds p q (beside a b)) y ∙ sym (ap (λ t. t || holds p q b) y)) (λ m. ap (λ t. holds p q a || t) (beside-holds p q a b m))
+-- what the upper version shows of the slots of which the lower shows nothing
+abbrev alone : Seen → Seen → Seen
+alone low high = cond (shows low) seen.NoRow high
 
--- ---- slot by slot
-abbrev shows : Seen → Bool
-shows (seen.Row one two a b) = true
-shows seen.NoRow = false
-shows (seen.Refused n) = false
+either-shows : (low high : Seen) → shows (either low high) ≡ shows low || shows high
+either-shows (seen.Row one two a b) high = refl
+either-shows seen.NoRow high = refl
+either-shows (seen.Refused n) high = refl
 
--- the rows at the upper version of the slots that show none at the lower
-abbrev besideAt : List ℤ → ℤ → ℤ → ℕ → Database
-besideAt t low high zero = []
-besideAt t low high (suc n) = cond (shows (shown low (slotAt t n))) [] (rowsOf (shown high (slotAt t n))) ++ besideAt t low high n
-
--- how many slots show a row at either
-abbrev shown-count : List ℤ → ℤ → ℤ → ℕ → ℕ
-shown-count t low high zero = 0
-shown-count t low high (suc n) = cond (shows (shown low (slotAt t n)) || shows (shown high (slotAt t n))) 1 0 + shown-count t low high n
-
--- a slot's key is held at a version exactly when the slot shows a row there
 module _ (t : List ℤ) (distinct : Distinct t) where
+  -- a slot's key is held at a version exactly when the slot shows a row there
   held-at : (s : ℤ) (k n : ℕ) → k < n → eqZ (slotAt t k .operation) emptyOperation ≡ false
       → holds (slotAt t k .key1) (slotAt t k .key2) (rowsAt t s n) ≡ shows (shown s (slotAt t k))
   held-at s k n l u =
-      let x = slotAt t k in
-      holds-perm (x .key1) (x .key2) (focus t s k n l)
-      ∙ holds-append (x .key1) (x .key2) (rowsOf (shown s x)) (restAt t s k n)
-      ∙ or-right _ _ (rest-lacks t s (x .key1) (x .key2) k n (only t distinct k (x .key1) (x .key2) (keyed-has (record { used = u; key1 = refl; key2 = refl }))))
-      ∙ shown-cases (λ r. holds (x .key1) (x .key2) (rowsOf r) ≡ shows r) s x
-      (λ u. ap (λ b. b || false) (is-key (x .key1) (x .key2) (row (x .key1) (x .key2) (x .current1) (x .current2)) refl refl))
-      (λ u. ap (λ b. b || false) (is-key (x .key1) (x .key2) (row (x .key1) (x .key2) (x .old1) (x .old2)) refl refl)) refl
-
-  cond-one : (b : Bool) (r : Row) (d : Database) → cond b d (r ∷ d) ≡ cond b [] (r ∷ []) ++ d
-  cond-one true r d = refl
-  cond-one false r d = refl
-
-  cond-none : (b : Bool) (d : Database) → d ≡ cond b [] [] ++ d
-  cond-none true d = refl
-  cond-none false d = refl
+      held-found (slotAt t k .key1) (slotAt t k .key2) (rowsAt t s n)
+      ∙ ap shows (found-rows t s (slotAt t k .key1) (slotAt t k .key2) k n distinct l (keyed-has (own-key (slotAt t k) u)))
 
   -- so the rows beside the lower version's are those of the slots that show none there
-  beside-at : (low high : ℤ) (N n : ℕ) → n ≤ N → beside (rowsAt t low N) (rowsAt t high n) ≡ besideAt t low high n
-  beside-at low high N zero l = refl
-  beside-at low high N (suc n) l =
+  beside-at : (low high : ℤ) (m n : ℕ) → n ≤ m
+      → beside (rowsAt t low m) (rowsAt t high n) ≡ rowsFor (λ k. alone (shownAt t low k) (shownAt t high k)) (upTo n)
+  beside-at low high m zero l = refl
+  beside-at low high m (suc n) l =
       let x = slotAt t n in
-      let rest = beside-at low high N n (omega arith) in
-      shown-cases (λ r. beside (rowsAt t low N) (rowsOf r ++ rowsAt t high n) ≡ cond (shows (shown low x)) [] (rowsOf r) ++ besideAt t low high n) high x
-      (λ u. ap₂ (λ b d. cond b d (row (x .key1) (x .key2) (x .current1) (x .current2) ∷ d)) (held-at low n N l u) rest
-      ∙ cond-one (shows (shown low x)) (row (x .key1) (x .key2) (x .current1) (x .current2)) (besideAt t low high n))
-      (λ u. ap₂ (λ b d. cond b d (row (x .key1) (x .key2) (x .old1) (x .old2) ∷ d)) (held-at low n N l u) rest
-      ∙ cond-one (shows (shown low x)) (row (x .key1) (x .key2) (x .old1) (x .old2)) (besideAt t low high n))
-      (rest ∙ cond-none (shows (shown low x)) (besideAt t low high n))
+      let rest = beside-at low high m n (omega arith) in
+      shown-own
+      (λ r. beside (rowsAt t low m) (rowsOf r ++ rowsAt t high n) ≡ rowsOf (alone (shown low x) r) ++ rowsFor (λ k. alone (shownAt t low k) (shownAt t high k)) (upTo n)) high x
+      (λ u a b. rw (held-at low n m (omega arith) u, rest) (by-test (shows (shown low x)) (λ y. rw y) (λ e. rw e)))
+      (by-test (shows (shown low x)) (λ y. rw y rest) (λ e. rw e rest))
 
--- ---- counting
-count-slot : (r q : Seen) → length (rowsOf r) + length (cond (shows r) [] (rowsOf q)) ≡ cond (shows r || shows q) 1 0
-count-slot (seen.Row a b c d) q = refl
-count-slot seen.NoRow (seen.Row a b c d) = refl
-count-slot seen.NoRow seen.NoRow = refl
-count-slot seen.NoRow (seen.Refused m) = refl
-count-slot (seen.Refused n) (seen.Row a b c d) = refl
-count-slot (seen.Refused n) seen.NoRow = refl
-count-slot (seen.Refused n) (seen.Refused m) = refl
+-- together they are those of the slots that show one at either
+either-slot : (low high : Seen) (d e : Database) {f : Database} → List·Permᴰ (d ++ e) f
+    → List·Permᴰ ((rowsOf low ++ d) ++ (rowsOf (alone low high) ++ e)) (rowsOf (either low high) ++ f)
+either-slot (seen.Row one two a b) high d e x = L.List·Permᴰ·cons refl x
+either-slot seen.NoRow high d e x = L.List·Permᴰ·trans (front d (rowsOf high) e) (Permᴰ·append-left (rowsOf high) x)
+either-slot (seen.Refused n) high d e x = L.List·Permᴰ·trans (front d (rowsOf high) e) (Permᴰ·append-left (rowsOf high) x)
 
-count-rows : (t : List ℤ) (low high : ℤ) (n : ℕ) → length (rowsAt t low n) + length (besideAt t low high n) ≡ shown-count t low high n
-count-rows t low high zero = refl
-count-rows t low high (suc n) =
-    let r = shown low (slotAt t n) in
-    let q = shown high (slotAt t n) in
-    ap₂ _+_ (length-append (rowsOf r) (rowsAt t low n)) (length-append (cond (shows r) [] (rowsOf q)) (besideAt t low high n))
-    ∙ omega (arith, count-slot r q, count-rows t low high n)
+either-rows : (f g : ℕ → Seen) (n : ℕ)
+    → List·Permᴰ (rowsFor f (upTo n) ++ rowsFor (λ k. alone (f k) (g k)) (upTo n)) (rowsFor (λ k. either (f k) (g k)) (upTo n))
+either-rows f g zero = L.List·Permᴰ·nil
+either-rows f g (suc n) = either-slot (f n) (g n) _ _ (either-rows f g n)
 
-step-one : (b : Bool) → cond b 1 0 ≤ 1
-step-one true = omega arith
-step-one false = omega arith
+-- ---- counting: the rows number the slots exactly when every slot shows one
+slot-count : (r : Seen) → length (rowsOf r) ≡ cond (shows r) 1 0
+slot-count (seen.Row one two a b) = refl
+slot-count seen.NoRow = refl
+slot-count (seen.Refused n) = refl
 
-count-within : (t : List ℤ) (low high : ℤ) (n : ℕ) → shown-count t low high n ≤ n
-count-within t low high zero = omega arith
-count-within t low high (suc n) =
-    omega (arith, count-within t low high n, step-one (shows (shown low (slotAt t n)) || shows (shown high (slotAt t n))))
+module _ (f : ℕ → Seen) where
+  count : (n : ℕ) → length (rowsFor f (upTo (suc n))) ≡ cond (shows (f n)) 1 0 + length (rowsFor f (upTo n))
+  count n = rw (length-append (rowsOf (f n)) (rowsFor f (upTo n)), slot-count (f n))
 
--- every slot shows a row exactly when the count is the slots'
-count-all : (t : List ℤ) (low high : ℤ) (n : ℕ) → ((j : ℕ) → j < n → shows (shown low (slotAt t j)) || shows (shown high (slotAt t j)) ≡ true) → shown-count t low high n ≡ n
-count-all t low high zero busy = refl
-count-all t low high (suc n) busy = ap₂ (λ b m. cond b 1 0 + m) (busy n (omega arith)) (count-all t low high n (λ j l. busy j (omega arith))) ∙ omega arith
+  count-within : (n : ℕ) → length (rowsFor f (upTo n)) ≤ n
+  count-within zero = omega arith
+  count-within (suc n) =
+      by-test (shows (f n)) (λ y. omega (arith, rw y at (count n), count-within n)) (λ m. omega (arith, rw m at (count n), count-within n))
 
-all-counted : (t : List ℤ) (low high : ℤ) (n : ℕ) → shown-count t low high n ≡ n → (j : ℕ) → j < n → shows (shown low (slotAt t j)) || shows (shown high (slotAt t j)) ≡ true
-all-counted t low high zero e j l = absurd (omega arith)
-all-counted t low high (suc n) e j l =
-    let b = shows (shown low (slotAt t n)) || shows (shown high (slotAt t n)) in
-    by-test b
-    (λ y. by-test (eqb j n)
-    (λ z. let s : j ≡ n = eqb-true j n z in rw s y)
-    (λ m. all-counted t low high n (omega (arith, e, ap (λ x. cond x 1 0 + shown-count t low high n) y)) j (omega (arith, eqb-false j n m))))
-    (λ m. absurd (omega (arith, e, ap (λ x. cond x 1 0 + shown-count t low high n) m, count-within t low high n)))
+  count-all : (n : ℕ) → ((j : ℕ) → j < n → shows (f j) ≡ true) → length (rowsFor f (upTo n)) ≡ n
+  count-all zero all = refl
+  count-all (suc n) all = omega (arith, rw (all n (omega arith)) at (count n), count-all n (λ j l. all j (omega arith)))
+
+  all-counted : (n : ℕ) → length (rowsFor f (upTo n)) ≡ n → (j : ℕ) → j < n → shows (f j) ≡ true
+  all-counted zero e j l = absurd (omega arith)
+  all-counted (suc n) e j l =
+      by-test (shows (f n))
+      (λ y. by-test (eqb j n)
+      (λ z. let same : j ≡ n = eqb-true j n z in rw same y)
+      (λ m. all-counted n (omega (arith, rw y at (count n))) j (omega (arith, eqb-false j n m))))
+      (λ m. absurd (omega (arith, rw m at (count n), count-within n)))
+
+-- ---- keys
+-- a slot that has a key holds it in what it shows, if it shows anything
+slot-holds : (p q s : ℤ) (x : Slot) → Keyed x p q → holds p q (rowsOf (shown s x)) ≡ shows (shown s x)
+slot-holds p q s x key = shown-own (λ r. holds p q (rowsOf r) ≡ shows r) s x (λ u a b. rw (is-key p q (row (x .key1) (x .key2) a b) (key .key1) (key .key2))) refl
+
+rows-hold : (f : ℕ → Seen) (p q : ℤ) (k n : ℕ) → k < n → holds p q (rowsOf (f k)) ≡ true → holds p q (rowsFor f (upTo n)) ≡ true
+rows-hold f p q k n l h = holds-perm p q (focus f k n l) ∙ holds-append p q (rowsOf (f k)) _ ∙ rw h
 
 -- ---- where the invariant holds and a run is active
-or-yes : (a b : Bool) → b ≡ true → a || b ≡ true
-or-yes true b e = refl
-or-yes false b e = e
+module _ {n : ℕ} {t : List ℤ} {v : Version} {g : Followed} (i : Inv n t v g) (a : g .active ≡ true) where
+  abbrev seenAt : ℕ → Seen
+  seenAt k = either (shownAt t (v .current) k) (shownAt t (runNumber v) k)
 
-module _ (n : ℕ) (t : List ℤ) (v : Version) (g : Followed) (i : Inv n t v g) (a : g .active ≡ true) where
-  low-rows : List·Permᴰ (rowsAt t (v .current) n) (databaseAt g (current g))
-  low-rows =
-      let e : lowOf g ≡ current g = ap (λ b. cond b (current g) (current g - 1)) a in
-      subst (λ m. List·Permᴰ (rowsAt t (v .current) n) (databaseAt g m)) e
-      (subst (λ s. List·Permᴰ (rowsAt t s n) (databaseAt g (lowOf g))) (low-is n t v g i a) (i .low))
+  -- what holds of a slot at every version
+  by-version : (P : Seen → Type 0) (j : ℕ) → ((s : ℤ) → P (shownAt t s j)) → P (seenAt j)
+  by-version P j each = by-test (shows (shownAt t (v .current) j)) (λ y. rw y (each (v .current))) (λ m. rw m (each (runNumber v)))
 
-  both-count : length (together (databaseAt g (current g)) (g .running)) ≡ shown-count t (v .current) (runNumber v) n
-  both-count =
-      sym (together-length low-rows (running-rows n t v g i a))
-      ∙ length-append (rowsAt t (v .current) n) _
-      ∙ ap (λ d. length (rowsAt t (v .current) n) + length d) (beside-at t (i .whole .distinct) (v .current) (runNumber v) n n (omega arith))
-      ∙ count-rows t (v .current) (runNumber v) n
+  both-rows : List·Permᴰ (together (databaseAt g (current g)) (g .running)) (rowsFor seenAt (upTo n))
+  both-rows =
+      let shown-both = Permᴰ·symm (together-perm (low-rows i a) (high-rows i a)) in
+      L.List·Permᴰ·trans (rw (beside-at t (i .whole .distinct) (v .current) (runNumber v) n n (omega arith)) at shown-both)
+      (either-rows (shownAt t (v .current)) (shownAt t (runNumber v)) n)
 
-  both-holds : (one two : ℤ) → holds one two (together (databaseAt g (current g)) (g .running))
-      ≡ holds one two (rowsAt t (v .current) n) || holds one two (rowsAt t (runNumber v) n)
-  both-holds one two =
-      together-holds one two (databaseAt g (current g)) (g .running)
-      ∙ sym (ap₂ _||_ (holds-perm one two low-rows) (holds-perm one two (running-rows n t v g i a)))
-
-  -- a slot that is not free shows a row at one of the two versions, and a free one at neither
-  taken-shows : (j : ℕ) → free (slotAt t j) v ≡ false → shows (shown (v .current) (slotAt t j)) || shows (shown (runNumber v) (slotAt t j)) ≡ true
-  taken-shows j f =
-      ⊎-elim
-      (λ e. or-yes (shows (shown (v .current) (slotAt t j))) _ (ap shows e))
-      (λ e. ap (λ r. shows r || shows (shown (runNumber v) (slotAt t j))) e)
-      (busy-seen t v (i .whole) (i .known) (runs n t v g i a) (slotAt t j) (i .whole .formed j) f)
-
-  shows-taken : (j : ℕ) → shows (shown (v .current) (slotAt t j)) || shows (shown (runNumber v) (slotAt t j)) ≡ true → free (slotAt t j) v ≡ false
-  shows-taken j h =
-      by-test (free (slotAt t j) v)
-      (λ y. let u = free-unseen v (i .known) (runs n t v g i a) (slotAt t j) y in clash h (ap₂ (λ p q. shows p || shows q) (u .0) (u .1)))
-      (λ m. m)
+  -- a slot is not free exactly when it shows a row at one of the two versions
+  taken : (j : ℕ) → shows (seenAt j) ≡ not (free (slotAt t j) v)
+  taken j =
+      let x = slotAt t j in
+      either-shows (shown (v .current) x) (shown (runNumber v) x)
+      ∙ by-test (free x v)
+      (λ y. let u = free-unseen v (i .known) (runs i a) x y in rw (u .0, u .1, y))
+      (λ m. rw m (⊎-elim (λ e. rw e (or-true (shows (shown (v .current) x)))) (λ e. rw e) (busy-seen t v (i .whole) (i .known) (runs i a) x (i .whole .formed j) m)))
 
   -- ---- no slot to take exactly when together they hold as many keys as there are slots, this key in neither
   module _ (one two : ℤ) where
     is-full : (length (together (databaseAt g (current g)) (g .running)) ≡ n) × (holds one two (together (databaseAt g (current g)) (g .running)) ≡ false)
-        → Full t v (i .whole) (i .known) (runs n t v g i a) one two
+        → Full t v (i .whole) (i .known) (runs i a) one two
     is-full (counted, without) =
-        let all = all-counted t (v .current) (runNumber v) n (sym both-count ∙ counted) in
-        let neither = neither _ _ (sym (both-holds one two) ∙ without) in
+        let all = all-counted seenAt n (sym (permᴰ-length both-rows) ∙ counted) in
+        let k = keySlot t one two in
         record {
-          absent = by-test (ltb (keySlot t one two) (slots t))
-              (λ y. let k = keySlot t one two in
-              let l = ltb-true k (slots t) y in
+          absent = by-test (ltb k (slots t))
+              (λ y. let l = ltb-true k (slots t) y in
+              let m : k < n = rw (i .size) at l in
               let key = has-key (slotAt t k) one two (keySlot-is t one two .passes l) in
-              let m = subst (λ z. k < z) (i .size) l in
-              clash (all k m)
-              (ap₂ _||_
-              (sym (held-at t (i .whole .distinct) (v .current) k n m (key .used)) ∙ ap₂ (λ p q. holds p q (rowsAt t (v .current) n)) (key .key1) (key .key2) ∙ neither .0)
-              (sym (held-at t (i .whole .distinct) (runNumber v) k n m (key .used)) ∙ ap₂ (λ p q. holds p q (rowsAt t (runNumber v) n)) (key .key1) (key .key2) ∙ neither .1)))
-              (λ m. ltb-false (keySlot t one two) (slots t) m);
-          taken = λ j l. shows-taken j (all j (subst (λ z. j < z) (i .size) l));
+              clash
+              (rows-hold seenAt one two k n m
+              (by-version (λ r. holds one two (rowsOf r) ≡ shows r) k (λ s. slot-holds one two s (slotAt t k) key) ∙ all k m))
+              (sym (holds-perm one two both-rows) ∙ without))
+              (ltb-false k (slots t));
+          taken = λ j l. not-yes (sym (taken j) ∙ all j (rw (i .size) at l));
         }
 
-    full-is : Full t v (i .whole) (i .known) (runs n t v g i a) one two
+    full-is : Full t v (i .whole) (i .known) (runs i a) one two
         → (length (together (databaseAt g (current g)) (g .running)) ≡ n) × (holds one two (together (databaseAt g (current g)) (g .running)) ≡ false)
     full-is f =
         let nowhere = absent-nowhere t one two (i .whole .shape) (f .absent) in (
-          both-count ∙ count-all t (v .current) (runNumber v) n (λ j l. taken-shows j (f .taken j (subst (λ z. j < z) (sym (i .size)) l))),
-          both-holds one two ∙ ap₂ _||_ (rows-lack t (v .current) one two n (λ j l. nowhere j)) (rows-lack t (runNumber v) one two n (λ j l. nowhere j)),
+          permᴰ-length both-rows ∙ count-all seenAt n (λ j l. taken j ∙ ap not (f .taken j (rw (i .size) l))),
+          holds-perm one two both-rows
+              ∙ rows-lack seenAt one two n (λ j l. by-version (λ r. holds one two (rowsOf r) ≡ false) j (λ s. slot-lacks one two s (slotAt t j) (nowhere j))),
         )
 
 pub fullness : (n : ℕ) (w : World) → InvW n w → Fullness n w
 fullness n w i a one two x y lawful absent =
     let t = w .state .words in
     let v = w .state .version in
-    let r = runs n t v (w .told) i a in
-    let refusal = insert-refused t v (i .whole) (i .known) r one two x y ∙ skip 13 _ lawful ∙ skip 10 _ (live-is n t v (w .told) i a one two ∙ absent) in
+    let r = runs i a in
+    let refusal = insert-refused t v (i .whole) (i .known) r one two x y ∙ skip 13 _ lawful ∙ skip 10 _ (live-is i a one two ∙ absent) in
     record {
-      full = λ f. ap answer.placed
-          (insert-refuses t v one two x y 11 (refusal ∙ hit _ (not-full t v (i .whole) (i .known) r one two (is-full n t v (w .told) i a one two f))) .answer);
+      full = λ f. ap answer.placed (insert-refuses t v one two x y 11 (refusal ∙ hit _ (not-full t v (i .whole) (i .known) r one two (is-full i a one two f))) .answer);
       room = λ no-room. ap (λ p. accepted (answer.placed p))
           (insert-accepts t v one two x y
-          (refusal ∙ skip 12 _
-          (by-test (noSlot t v one two) (λ z. absurd (no-room (full-is n t v (w .told) i a one two (full t v (i .whole) (i .known) r one two z)))) (λ m. m))
+          (refusal
+          ∙ skip 12 _ (by-test (noSlot t v one two) (λ z. absurd (no-room (full-is i a one two (full t v (i .whole) (i .known) r one two z)))) (λ m. m))
           ∙ done) .answer);
     }

@@ -1,8 +1,8 @@
 pub mod Databases
 pub mod Rows
 pub mod Invariant
-pub mod Steps
 pub mod Answers
+pub mod Steps
 pub mod Sessions
 pub mod Changing
 pub mod Fullness
