@@ -4,19 +4,19 @@ use mathlib.Core.Path.{_≡_, refl}
 use mathlib.Core.Bool.{true, false}
 use lib.IntN.{ℤ}
 use lib.Signed.{leZ}
-use Rattle.laws.specs.Cells.{cellAt}
+use Rattle.laws.specs.Tests.{clash}
 use Rattle.version.specs.declared.Version.{Version}
 use Rattle.table.specs.declared.Slot.{Slot}
 use Rattle.table.specs.Slots.{empty}
 use Rattle.table.specs.Operations.{insertOperation, updateOperation, deleteOperation, live}
-use Rattle.table.specs.OperationLaws.{live-cases, column-empty, column-insert, column-update, column-delete}
+use Rattle.table.specs.OperationLaws.{live-cases, column-insert, column-update, column-delete}
 use Rattle.table.specs.TotalLaws.{Given}
 use Rattle.table.specs.Formed.{wellFormed}
 use Rattle.table.specs.FormedLaws.{formed-cases}
 use Rattle.reads.specs.declared.Seen.{Seen}
 use Rattle.reads.specs.declared.Seen.the-variants.{Row, NoRow, Refused}
-use Rattle.reads.specs.Table1.{table1, currentRow, oldRow, readCell, shown}
-use Rattle.reads.specs.ShownLaws.{shown-cases}
+use Rattle.reads.specs.Table1.{currentRow, oldRow, shown}
+use Rattle.reads.specs.ShownLaws.{shown-cases, shown-own}
 
 -- ---- run number ≤ session: current totals, or no row if deleted
 pub shown-current : (s : ℤ) (x : Slot) → leZ (x .run) s ≡ true → live x ≡ true → shown s x ≡ currentRow x
@@ -43,12 +43,7 @@ shown-inserted s x h e = rw (h, column-insert x e) refl
 
 -- ---- an empty slot is no row
 pub shown-empty : (s : ℤ) → shown s empty ≡ NoRow
-unfolding shown
-shown-empty s = rw (column-empty empty refl) (go (leZ (empty .run) s))
-  where
-    go : (b : mathlib.Core.Bool.Bool) → readCell (cellAt table1 b 0) empty ≡ NoRow
-    go true = refl
-    go false = refl
+shown-empty s = shown-own (λ r. r ≡ NoRow) s empty (λ u a b. clash refl u) refl
 
 -- ---- a row that is shown of a well formed slot has lawful totals
 abbrev pub LawfulRow : Seen → Type 0
@@ -59,4 +54,4 @@ LawfulRow (Refused n) = Unit {0}
 pub shown-lawful : (s : ℤ) (x : Slot) (v : Version) → wellFormed x v ≡ true → LawfulRow (shown s x)
 shown-lawful s x v w =
     formed-cases x v w (λ e. rw (e, shown-empty s) tt)
-    (λ u. shown-cases LawfulRow s x (λ n. record { first = u .current1; second = u .current2 }) (λ n. record { first = u .old1; second = u .old2 }) tt)
+    (λ u. shown-cases LawfulRow s x (λ n. search) (λ n. search) tt)
