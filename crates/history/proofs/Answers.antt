@@ -15,7 +15,7 @@ use Rattle.version.specs.Sessions.{unborn, expired}
 use Rattle.version.specs.SessionLaws.{born, expires}
 use Rattle.table.specs.Slots.{slots, slotAt}
 use Rattle.table.specs.FormedLaws.{all-formed}
-use Rattle.searches.specs.Keys.{keySlot, keyed}
+use Rattle.searches.specs.Keys.{keyed}
 use Rattle.reads.specs.Table1.{shown}
 use Rattle.reads.specs.ShownLaws.{shown-own}
 use Rattle.reads.specs.RollUp.{tally, sums}
@@ -69,40 +69,30 @@ module _ {n : ℕ} {t : List ℤ} {v : Version} {g : Followed} (i : Inv n t v g)
 
 module _ (n : ℕ) (w : World) (i : InvW n w) where
   pub key-reads : KeyReads w
-  key-reads s c one two =
-      let t = w .state .words in
-      let v = w .state .version in
-      record {
-        gone = λ h. ap answer.seen (key-expired t v (pos s) (i .whole .shape) (i .known) (is-born i c) one two (gone i c h));
-        kept = λ no-run. ap answer.seen
-            (key-shown t v (pos s) (i .whole .shape) (i .known) (is-born i c) (kept i c no-run) one two (i .whole .formed (keySlot t one two))
-            ∙ key-row i c no-run one two);
-      }
+  key-reads s c one two = record {
+    gone = λ h. ap answer.seen (key-expired _ _ _ (i .whole .shape) (i .known) (is-born i c) one two (gone i c h));
+    kept = λ no-run. ap answer.seen
+        (key-shown _ _ _ (i .whole .shape) (i .known) (is-born i c) (kept i c no-run) one two (i .whole .formed _) ∙ key-row i c no-run one two);
+  }
 
   pub roll-ups : RollUps w
-  roll-ups s c one =
-      let t = w .state .words in
-      let v = w .state .version in
-      record {
-        gone = λ h. ap answer.rolled (roll-up-expired t v (pos s) (i .whole .shape) (i .known) (is-born i c) one (gone i c h));
-        kept = λ no-run. ap answer.rolled
-            (roll-up-summed t v (pos s) (i .whole .shape) (i .known) (is-born i c) (kept i c no-run) one (all-formed t v (i .whole .formed))
-            ∙ ap sums (region-sums i c no-run one));
-      }
+  roll-ups s c one = record {
+    gone = λ h. ap answer.rolled (roll-up-expired _ _ _ (i .whole .shape) (i .known) (is-born i c) one (gone i c h));
+    kept = λ no-run. ap answer.rolled
+        (roll-up-summed _ _ _ (i .whole .shape) (i .known) (is-born i c) (kept i c no-run) one (all-formed _ _ (i .whole .formed))
+        ∙ ap sums (region-sums i c no-run one));
+  }
 
   -- what a slot read answers
   pub slot-answer : (s : ℕ) → Committed (w .told) s → (HasBegun (w .told) (s + 2) → ⊥) → (k : ℕ) → k < n
       → answerOf (readSlot (pos s) k) w ≡ answer.seen (shownAt (w .state .words) (pos s) k)
   slot-answer s c no-run k l =
-      ap answer.seen
-      (slot-shown (w .state .words) (w .state .version) (pos s) (i .whole .shape) (i .known) (is-born i c) (kept i c no-run) k (rw (i .size) l) (i .whole .formed k))
+      ap answer.seen (slot-shown _ _ _ (i .whole .shape) (i .known) (is-born i c) (kept i c no-run) k (rw (i .size) l) (i .whole .formed k))
 
   pub slot-reads : SlotReads n w
-  slot-reads s c k =
-      let t = w .state .words in
-      let v = w .state .version in
-      record {
-        gone = λ h. ap answer.seen (slot-expired t v (pos s) (i .whole .shape) (i .known) (is-born i c) k (gone i c h));
-        past = λ no-run l. ap answer.seen (slot-past t v (pos s) (i .whole .shape) (i .known) (is-born i c) (kept i c no-run) k (rw (i .size) l));
-        kept = λ no-run l. ap accepted (slot-answer s c no-run k l) ∙ shown-own (λ r. accepted (answer.seen r) ≡ true) (pos s) (slotAt t k) (λ u a b. refl) refl;
-      }
+  slot-reads s c k = record {
+    gone = λ h. ap answer.seen (slot-expired _ _ _ (i .whole .shape) (i .known) (is-born i c) k (gone i c h));
+    past = λ no-run l. ap answer.seen (slot-past _ _ _ (i .whole .shape) (i .known) (is-born i c) (kept i c no-run) k (rw (i .size) l));
+    kept = λ no-run l. ap accepted (slot-answer s c no-run k l)
+        ∙ shown-own (λ r. accepted (answer.seen r) ≡ true) (pos s) (slotAt (w .state .words) k) (λ u a b. refl) refl;
+  }

@@ -46,19 +46,17 @@ module _ {n : ℕ} {t : List ℤ} {v : Version} {g : Followed} (i : Inv n t v g)
 
 pub changes-kept : (n : ℕ) (w : World) → InvW n w → ChangesKept w
 changes-kept n w i a one two =
-    let t = w .state .words in
-    let v = w .state .version in
     let live = live-is i a one two in
-    let update = update-refused t v (i .whole) (i .known) (runs i a) one two in
-    let delete = delete-refused t v (i .whole) (i .known) (runs i a) one two in
+    let update = update-refused _ _ (i .whole) (i .known) (runs i a) one two in
+    let delete = delete-refused _ _ (i .whole) (i .known) (runs i a) one two in
     record {
       updated = λ x y lawful holds. ap (λ p. accepted (answer.placed p))
-          (update-accepts t v one two x y (update x y ∙ skip 13 _ lawful ∙ skip 11 _ (ap not (live ∙ holds)) ∙ done) .answer);
-      unlawful-update = λ x y unlawful. ap answer.placed (update-refuses t v one two x y 12 (update x y ∙ hit _ unlawful) .answer);
+          (update-accepts _ _ one two x y (update x y ∙ skip 13 _ lawful ∙ skip 11 _ (ap not (live ∙ holds)) ∙ done) .answer);
+      unlawful-update = λ x y unlawful. ap answer.placed (update-refuses _ _ one two x y 12 (update x y ∙ hit _ unlawful) .answer);
       no-update = λ x y lawful holds. ap answer.placed
-          (update-refuses t v one two x y 10 (update x y ∙ skip 13 _ lawful ∙ hit _ (ap not (live ∙ holds))) .answer);
-      deleted = λ holds. ap (λ p. accepted (answer.placed p)) (delete-accepts t v one two (delete ∙ skip 11 _ (ap not (live ∙ holds)) ∙ done) .answer);
-      no-delete = λ holds. ap answer.placed (delete-refuses t v one two 10 (delete ∙ hit _ (ap not (live ∙ holds))) .answer);
+          (update-refuses _ _ one two x y 10 (update x y ∙ skip 13 _ lawful ∙ hit _ (ap not (live ∙ holds))) .answer);
+      deleted = λ holds. ap (λ p. accepted (answer.placed p)) (delete-accepts _ _ one two (delete ∙ skip 11 _ (ap not (live ∙ holds)) ∙ done) .answer);
+      no-delete = λ holds. ap answer.placed (delete-refuses _ _ one two 10 (delete ∙ hit _ (ap not (live ∙ holds))) .answer);
       live-insert = λ x y lawful holds. ap answer.placed
-          (insert-refuses t v one two x y 9 (insert-refused t v (i .whole) (i .known) (runs i a) one two x y ∙ skip 13 _ lawful ∙ hit _ (live ∙ holds)) .answer);
+          (insert-refuses _ _ one two x y 9 (insert-refused _ _ (i .whole) (i .known) (runs i a) one two x y ∙ skip 13 _ lawful ∙ hit _ (live ∙ holds)) .answer);
     }

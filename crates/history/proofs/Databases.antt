@@ -1,5 +1,5 @@
 -- Databases in another order: a permutation of rows holds the same keys, and where no key stands twice it finds the same rows,
--- rolls up to the same sums, and loses the same row. Each by recursion on the permutation; a step on one or two rows goes by
+-- rolls up to the same sums, and loses the same row. Each goes by the permutation; a step on one or two rows goes by
 -- the tests on them alone. Assumes nothing.
 use mathlib.Core.Path.{_≡_, refl, sym, ap, ap₂, _∙_}
 use mathlib.Core.Bool.{Bool, true, false, cond, _&&_, _||_, or-assoc, or-comm}
@@ -59,10 +59,6 @@ without-absent p q [] h = refl
 without-absent p q (r ∷ d) h =
     let n = neither (isKey p q r) (holds p q d) h in
     ap₂ (λ b l. cond b l (r ∷ l)) (n .0) (without-absent p q d (n .1))
-
-pub without-append : (p q : ℤ) (d e : Database) → without p q (d ++ e) ≡ without p q d ++ without p q e
-without-append p q [] e = refl
-without-append p q (r ∷ d) e = by-test (isKey p q r) (λ y. rw y (without-append p q d e)) (λ n. rw n (ap (λ l. r ∷ l) (without-append p q d e)))
 
 -- ---- what is left where a test on each row drops some, in another order
 module _ (drops : Row → Bool) (left : Database → Database) (none : left [] ≡ []) (row : (r : Row) (d : Database) → left (r ∷ d) ≡ cond (drops r) (left d) (r ∷ left d)) where

@@ -22,7 +22,7 @@ use Rattle.table.specs.declared.Slot.{Slot}
 use Rattle.table.specs.Slots.{slots, slotAt}
 use Rattle.table.specs.Operations.{emptyOperation}
 use Rattle.searches.specs.Keys.{keySlot}
-use Rattle.searches.specs.KeyLaws.{Keyed, has-key, keyed-has, keySlot-is, absent-nowhere}
+use Rattle.searches.specs.KeyLaws.{Keyed, has-key, keySlot-is, absent-nowhere}
 use Rattle.searches.specs.Free.{free}
 use Rattle.reads.specs.declared.Seen.{Seen}
 use Rattle.reads.specs.declared.Seen.the-variants as seen
@@ -71,7 +71,7 @@ module _ (t : List ℤ) (distinct : Distinct t) where
       → holds (slotAt t k .key1) (slotAt t k .key2) (rowsAt t s n) ≡ shows (shown s (slotAt t k))
   held-at s k n l u =
       held-found (slotAt t k .key1) (slotAt t k .key2) (rowsAt t s n)
-      ∙ ap shows (found-rows t s (slotAt t k .key1) (slotAt t k .key2) k n distinct l (keyed-has (own-key (slotAt t k) u)))
+      ∙ ap shows (found-rows t s (slotAt t k .key1) (slotAt t k .key2) k n distinct l (own-key (slotAt t k) u))
 
   -- so the rows beside the lower version's are those of the slots that show none there
   beside-at : (low high : ℤ) (m n : ℕ) → n ≤ m
@@ -188,15 +188,13 @@ module _ {n : ℕ} {t : List ℤ} {v : Version} {g : Followed} (i : Inv n t v g)
 
 pub fullness : (n : ℕ) (w : World) → InvW n w → Fullness n w
 fullness n w i a one two x y lawful absent =
-    let t = w .state .words in
-    let v = w .state .version in
     let r = runs i a in
-    let refusal = insert-refused t v (i .whole) (i .known) r one two x y ∙ skip 13 _ lawful ∙ skip 10 _ (live-is i a one two ∙ absent) in
+    let refusal = insert-refused _ _ (i .whole) (i .known) r one two x y ∙ skip 13 _ lawful ∙ skip 10 _ (live-is i a one two ∙ absent) in
     record {
-      full = λ f. ap answer.placed (insert-refuses t v one two x y 11 (refusal ∙ hit _ (not-full t v (i .whole) (i .known) r one two (is-full i a one two f))) .answer);
+      full = λ f. ap answer.placed (insert-refuses _ _ one two x y 11 (refusal ∙ hit _ (not-full _ _ (i .whole) (i .known) r one two (is-full i a one two f))) .answer);
       room = λ no-room. ap (λ p. accepted (answer.placed p))
-          (insert-accepts t v one two x y
+          (insert-accepts _ _ one two x y
           (refusal
-          ∙ skip 12 _ (by-test (noSlot t v one two) (λ z. absurd (no-room (full-is i a one two (full t v (i .whole) (i .known) r one two z)))) (λ m. m))
+          ∙ skip 12 _ (by-test (noSlot _ _ one two) (λ z. absurd (no-room (full-is i a one two (full _ _ (i .whole) (i .known) r one two z)))) (λ m. m))
           ∙ done) .answer);
     }

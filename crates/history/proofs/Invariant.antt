@@ -35,12 +35,12 @@ use Rattle.reads.specs.Table1Laws.{shown-empty}
 use Rattle.reads.specs.ShownLaws.{shown-later}
 use Rattle.changes.specs.Effects.{Own}
 use Rattle.changes.specs.Whole.{Whole, Wrote, written-slot, other-slot, whole-after}
-use Rattle.history.specs.Databases.{row, without, found}
+use Rattle.history.specs.Databases.{Database, row, without, found}
 use Rattle.history.specs.Followed.{Followed, start, current, databaseAt, withRunning, hear}
 use Rattle.calls.specs.Calls.{begin, commit}
 use Rattle.history.specs.Histories.{Size, World}
 use Rattle.history.specs.Demand.{rowsOf}
-use Rattle.history.proofs.Databases.{without-absent, without-append, without-perm, is-key}
+use Rattle.history.proofs.Databases.{without-absent, without-perm, is-key}
 use Rattle.history.proofs.Rows.{shownAt, rowsAt, hiding, restAt, focus, rows-same, rest-lacks, found-keyed}
 
 -- the low version of the two that matter
@@ -117,10 +117,10 @@ idle-rows {g = g} i idle =
 
 -- ---- a change
 -- a row of the key, and no row, are gone without it
-own-gone : (one two : ℤ) (r : Seen) → Own one two r → without one two (rowsOf r) ≡ []
-own-gone one two (seen.Row k1 k2 a b) o = rw (is-key one two (row k1 k2 a b) (o .0) (o .1))
-own-gone one two seen.NoRow o = refl
-own-gone one two (seen.Refused m) o = absurd o
+own-gone : (one two : ℤ) (r : Seen) (d : Database) → Own one two r → without one two (rowsOf r ++ d) ≡ without one two d
+own-gone one two (seen.Row k1 k2 a b) d o = rw (is-key one two (row k1 k2 a b) (o .0) (o .1))
+own-gone one two seen.NoRow d o = refl
+own-gone one two (seen.Refused m) d o = absurd o
 
 module _ {n : ℕ} {t : List ℤ} {v : Version} {g : Followed} (i : Inv n t v g) (a : g .active ≡ true)
     {one two : ℤ} {after : Seen} {k : ℕ} {t′ : List ℤ} (w : Wrote t v one two after k t′) where
@@ -143,8 +143,8 @@ module _ {n : ℕ} {t : List ℤ} {v : Version} {g : Followed} (i : Inv n t v g)
   others =
       let rest = restAt t (runNumber v) k n in
       let before = shown (runNumber v) (slotAt t k) in
-      let e : without one two (rowsOf before ++ rest) ≡ rest = rw
-      (without-append one two (rowsOf before) rest, own-gone one two before (w .effect .before), without-absent one two rest (rest-lacks t (runNumber v) one two k n (w .alone))) in
+      let e : without one two (rowsOf before ++ rest) ≡ rest =
+      own-gone one two before rest (w .effect .before) ∙ without-absent one two rest (rest-lacks t (runNumber v) one two k n (w .alone)) in
       rw e at (without-perm one two (L.List·Permᴰ·trans (Permᴰ·symm (focus (shownAt t (runNumber v)) k n placed)) (high-rows i a)))
 
   running-rows : List·Permᴰ (rowsAt t′ (runNumber v) n) (rowsOf after ++ without one two (g .running))

@@ -72,10 +72,6 @@ focus f k (suc n) h =
     (L.List·Permᴰ·trans (Permᴰ·append-left (rowsOf (f n)) (focus f k n (omega (arith, eqb-false n k m))))
     (front (rowsOf (f n)) (rowsOf (f k)) (rowsFor (hiding k f) (upTo n)))))
 
--- the key of a used slot is its own
-pub own-key : (x : Slot) → eqZ (x .operation) emptyOperation ≡ false → Keyed x (x .key1) (x .key2)
-own-key x u = record { used = u; key1 = refl; key2 = refl }
-
 -- ---- keys: where no slot shows a row of one, no row has it
 pub rows-lack : (f : ℕ → Seen) (p q : ℤ) (n : ℕ) → ((j : ℕ) → j < n → holds p q (rowsOf (f j)) ≡ false) → holds p q (rowsFor f (upTo n)) ≡ false
 rows-lack f p q zero none = refl
@@ -91,6 +87,10 @@ rest-lacks t s p q k n none =
     rows-lack (hiding k (shownAt t s)) p q n
     (λ j l. by-test (eqb j k) (λ y. rw y refl) (λ m. rw m (slot-lacks p q s (slotAt t j) (none j (eqb-false j k m)))))
 
+-- a used slot has the key of its own words
+pub own-key : (x : Slot) → eqZ (x .operation) emptyOperation ≡ false → hasKey x (x .key1) (x .key2) ≡ true
+own-key x u = keyed-has (record { used = u; key1 = refl; key2 = refl })
+
 -- no key twice
 pub rows-norepeat : (t : List ℤ) (s : ℤ) (n : ℕ) → Distinct t → NoRepeat (rowsAt t s n)
 rows-norepeat t s zero d = tt
@@ -99,7 +99,7 @@ rows-norepeat t s (suc n) d =
     shown-own (λ r. NoRepeat (rowsOf r ++ rowsAt t s n)) s x
     (λ u a b. (
       rows-lack (shownAt t s) (x .key1) (x .key2) n
-          (λ j l. slot-lacks (x .key1) (x .key2) s (slotAt t j) (only t d n (x .key1) (x .key2) (keyed-has (own-key x u)) j (omega arith))),
+          (λ j l. slot-lacks (x .key1) (x .key2) s (slotAt t j) (only t d n (x .key1) (x .key2) (own-key x u) j (omega arith))),
       rows-norepeat t s n d,
     ))
     (rows-norepeat t s n d)
