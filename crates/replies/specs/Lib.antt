@@ -5,3 +5,4 @@ pub mod DecimalLaws
 pub mod LineLaws
 pub mod WrittenLaws
 pub mod ReadBack
+pub mod OutputLaws

@@ -1,2 +1,2 @@
-pub mod Sound
-pub mod SoundLaws
+pub mod Ready
+pub mod ReadyLaws

@@ -1,197 +1,163 @@
-// The work of the program `steps`: a table of 8 slots and a record, both fresh; each line of standard input is answered by a
-// line of standard output. It reads, cuts lines, has each answered and writes. What is answered is written when there is no room
-// for more, and before each read, so that whoever waits for an answer has it.
+// The work of the program `steps`: a table of 8 slots and a record, both fresh; standard input is read, its lines are answered by
+// `lines`, and the replies are written when there is no room for more, and before the next read, so that whoever waits for a
+// reply has it.
 ghost use mathlib.Core.Path.{_≡_};
-ghost use Prim.Native.Nat.{_≤_};
+ghost use Prim.Native.Nat.{_≤_, _<_};
 ghost use lib.ListN.{length};
-ghost use Rattle.stepper.specs.Sound.{Sound};
+ghost use Rattle.replies.specs.Written.{longestLine};
+ghost use Rattle.lines.specs.Standing.{lineBytes};
+ghost use Rattle.stepper.specs.Ready.{Ready};
 use libc::STDIN_FILENO;
 use libc::STDOUT_FILENO;
+use lines::Progress;
 use reader::Version;
-use replies::NEWLINE;
 
 // 8 slots of 8 words.
 const TABLE_WORDS: usize = 64;
 
-// A byte more than the longest command: of a longer line these show that it is bad.
-const LINE_BYTES: usize = commands::LONGEST_COMMAND + 1;
-
-// What stands between two bytes: the record, how many bytes of the line are kept and how many of the buffer are to be written,
-// whether there may be more to read, and whether all that was written was taken.
-struct Progress {
-    version: Version,
-    kept: usize,
-    place: usize,
+// What stands between two reads, whether there may be more to read, and whether all that was written was taken.
+struct Step {
+    progress: Progress,
     more: bool,
     taken: bool,
 }
 
-// What stands in the buffer is written.
-fn flush(buffer: &[u8], mut progress: Progress) -> Progress
-    requires { ⌜ progress .place ≤ length (now buffer) ⌝ }
-    ensures { λ r. ⌜ (r .kept ≡ progress .kept) × (r .place ≡ 0) ⌝ }
-{
-    let place = progress.place;
-    progress.taken = io::write_all(STDOUT_FILENO, &buffer[..place]);
-    progress.place = 0;
-    progress
+// What a part of a read's bytes leaves: what then stands, how many of them were answered, and whether all replies were taken.
+struct Part {
+    progress: Progress,
+    count: usize,
+    taken: bool,
 }
 
-// A line past the longest command is kept as far as its bytes show that it is bad.
-fn keep(line: &mut [u8], kept: usize, byte: u8) -> usize
-    requires { ⌜ kept ≤ length (now line) ⌝ }
-    ensures { λ r. ⌜ r ≤ length (now (line .entry)) ⌝ }
+// The replies in the buffer are written; whether all were taken.
+fn write_replies(buffer: &[u8], place: usize) -> bool
+    requires { ⌜ place ≤ length (now buffer) ⌝ }
 {
-    if kept >= line.len() {
-        return kept;
-    }
-    line[kept] = byte;
-    kept + 1
+    io::write_all(STDOUT_FILENO, &buffer[..place])
 }
 
-// There is room for the longest line, or what stands in the buffer is written.
-fn make_room(buffer: &[u8], progress: Progress) -> Progress
-    requires { ⌜ progress .place ≤ length (now buffer) ⌝ }
-    ensures { λ r. ⌜ (r .kept ≡ progress .kept) × (r .place ≤ length (now (buffer .entry))) ⌝ }
-{
-    if buffer.len() - progress.place < replies::LONGEST_LINE {
-        return flush(buffer, progress);
-    }
-    progress
-}
-
-// The line is answered, once there is room for its reply.
-fn end_line(table: &mut [i64], line: &[u8], buffer: &mut [u8], progress: Progress) -> Progress
-    requires { ⌜ Sound progress (now line) (now buffer) ⌝ }
-    ensures { λ r. ⌜ Sound r (now (line .entry)) (now (buffer .entry)) ⌝ }
-{
-    let ready = make_room(buffer, progress);
-    if !ready.taken {
-        return ready;
-    }
-    let before = ready.version;
-    let kept = ready.kept;
-    let turn = answers::answer(table, before, &line[..kept], buffer, ready.place);
-    let version = turn.version;
-    Progress {
-        version: version,
-        kept: 0,
-        place: turn.place,
-        more: ready.more,
-        taken: true,
-    }
-}
-
-fn take_byte(
+// Bytes are answered as long as there is room for their replies, which are written.
+fn take_part(
     table: &mut [i64],
     line: &mut [u8],
     buffer: &mut [u8],
-    mut progress: Progress,
-    byte: u8,
-) -> Progress
-    requires { ⌜ Sound progress (now line) (now buffer) ⌝ }
-    ensures { λ r. ⌜ Sound r (now (line .entry)) (now (buffer .entry)) ⌝ }
+    progress: Progress,
+    input: &[u8],
+) -> Part
+    requires { ⌜ Ready progress (now line) (now buffer) ⌝ }
+    ensures { λ r. ⌜ Ready (r .progress) (now (line .exit)) (now (buffer .exit)) ⌝ }
+    ensures { λ r. ⌜ r .count ≤ length (now (input .entry)) ⌝ }
+    ensures { λ r. ⌜ (0 < length (now (input .entry)) → 0 < r .count) ⌝ }
 {
-    if byte == NEWLINE {
-        return end_line(table, line, buffer, progress);
+    let some = lines::take_bytes(table, line, buffer, progress, input);
+    let after = some.progress;
+    let taken = write_replies(buffer, after.place);
+    let version = after.version;
+    Part {
+        progress: Progress {
+            version: version,
+            kept: after.kept,
+            place: 0,
+        },
+        count: some.count,
+        taken: taken,
     }
-    progress.kept = keep(line, progress.kept, byte);
-    progress
 }
 
-fn take_bytes(
+// The bytes of one read are answered, part after part.
+fn take_input(
     table: &mut [i64],
     line: &mut [u8],
     buffer: &mut [u8],
     mut progress: Progress,
     input: &[u8],
-) -> Progress
-    requires { ⌜ Sound progress (now line) (now buffer) ⌝ }
-    ensures { λ r. ⌜ Sound r (now (line .entry)) (now (buffer .entry)) ⌝ }
+) -> Step
+    requires { ⌜ Ready progress (now line) (now buffer) ⌝ }
+    ensures { λ r. ⌜ Ready (r .progress) (now (line .exit)) (now (buffer .exit)) ⌝ }
 {
-    let mut i: usize = 0;
-    while i < input.len() {
-        progress = take_byte(table, line, buffer, progress, input[i]);
-        if !progress.taken {
-            return progress;
+    let mut from: usize = 0;
+    while from < input.len() {
+        let part = take_part(table, line, buffer, progress, &input[from..]);
+        progress = part.progress;
+        if !part.taken {
+            return Step {
+                progress: progress,
+                more: true,
+                taken: false,
+            };
         }
-        i += 1;
+        from += part.count;
     }
-    progress
+    Step {
+        progress: progress,
+        more: true,
+        taken: true,
+    }
 }
 
-// One read, and its bytes; before it, what was answered is written.
-fn take_some(
-    table: &mut [i64],
-    line: &mut [u8],
-    buffer: &mut [u8],
-    mut progress: Progress,
-) -> Progress
-    requires { ⌜ Sound progress (now line) (now buffer) ⌝ }
-    ensures { λ r. ⌜ Sound r (now (line .entry)) (now (buffer .entry)) ⌝ }
+// One read.
+fn take_some(table: &mut [i64], line: &mut [u8], buffer: &mut [u8], progress: Progress) -> Step
+    requires { ⌜ Ready progress (now line) (now buffer) ⌝ }
+    ensures { λ r. ⌜ Ready (r .progress) (now (line .exit)) (now (buffer .exit)) ⌝ }
 {
-    progress = flush(buffer, progress);
-    if !progress.taken {
-        return progress;
-    }
     let mut input = io::large_buffer();
     let got = io::count(libc::read(STDIN_FILENO, &mut input), &input);
-    progress.more = got > 0;
-    take_bytes(table, line, buffer, progress, &input[..got])
+    let mut step = take_input(table, line, buffer, progress, &input[..got]);
+    step.more = got > 0;
+    step
 }
 
 // A proved loop has to end, and nothing says that the input does: it counts down from a number that no input uses up.
-fn take_all(
-    table: &mut [i64],
-    line: &mut [u8],
-    buffer: &mut [u8],
-    mut progress: Progress,
-) -> Progress
-    requires { ⌜ Sound progress (now line) (now buffer) ⌝ }
-    ensures { λ r. ⌜ Sound r (now (line .entry)) (now (buffer .entry)) ⌝ }
+fn take_all(table: &mut [i64], line: &mut [u8], buffer: &mut [u8], progress: Progress) -> Step
+    requires { ⌜ Ready progress (now line) (now buffer) ⌝ }
+    ensures { λ r. ⌜ Ready (r .progress) (now (line .exit)) (now (buffer .exit)) ⌝ }
 {
+    let mut step = Step {
+        progress: progress,
+        more: true,
+        taken: true,
+    };
     let mut turns = u64::MAX;
     while turns > 0 {
-        progress = take_some(table, line, buffer, progress);
-        if !(progress.more & progress.taken) {
-            return progress;
+        let before = step.progress;
+        step = take_some(table, line, buffer, before);
+        if !(step.more & step.taken) {
+            return step;
         }
         turns -= 1;
     }
-    progress
+    step
 }
 
-// The last line needs no newline.
-fn end_last(table: &mut [i64], line: &[u8], buffer: &mut [u8], progress: Progress) -> Progress
-    requires { ⌜ Sound progress (now line) (now buffer) ⌝ }
-    ensures { λ r. ⌜ Sound r (now (line .entry)) (now (buffer .entry)) ⌝ }
+// The last line, where all replies before it were taken.
+fn take_last(table: &mut [i64], line: &[u8], buffer: &mut [u8], step: Step)
+    requires { ⌜ Ready (step .progress) (now line) (now buffer) ⌝ }
 {
-    if progress.taken & (progress.kept > 0) {
-        return end_line(table, line, buffer, progress);
+    if step.taken {
+        let progress = step.progress;
+        let last = lines::end_last(table, line, buffer, progress);
+        write_replies(buffer, last.place);
     }
-    progress
 }
 
 // All lines, over a lent line and buffer.
-fn answer_all(table: &mut [i64], line: &mut [u8], buffer: &mut [u8]) {
+fn answer_all(table: &mut [i64], line: &mut [u8], buffer: &mut [u8])
+    requires { ⌜ length (now line) ≡ lineBytes ⌝ }
+    requires { ⌜ longestLine ≤ length (now buffer) ⌝ }
+{
     let start = Progress {
         version: Version::fresh(),
         kept: 0,
         place: 0,
-        more: true,
-        taken: true,
     };
     let all = take_all(table, line, buffer, start);
-    let last = end_last(table, line, buffer, all);
-    if last.taken {
-        flush(buffer, last);
-    }
+    take_last(table, line, buffer, all);
 }
 
 // From a fresh start, the whole of standard input.
 pub fn run() {
     let mut table = [0i64; TABLE_WORDS];
-    let mut line = [0u8; LINE_BYTES];
+    let mut line = [0u8; lines::LINE_BYTES];
     let mut buffer = io::large_buffer();
     answer_all(&mut table, &mut line, &mut buffer);
 }

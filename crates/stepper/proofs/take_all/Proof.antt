@@ -1,31 +1,23 @@
--- `stepper::take_all` meets its contract, and ends: what holds from byte to byte holds at the end. Assumes nothing.
+-- `stepper::take_all` meets its contract, and ends: what holds from read to read holds at the end. Assumes nothing.
 use mathlib.Core.Path.{refl}
 use native.Mathlib.Omega.{arith}
-use Rattle.stepper.specs.SoundLaws.{Held, sound}
+use Rattle.stepper.specs.ReadyLaws.{Held}
 use Rattle.stepper.proofs.take_all.Statement.{statement}
 use Rattle.stepper.proofs.take_all.Tie as tie
 
 abbrev Inv-loop : tie.InvT-loop
-Inv-loop table₀ line₀ buffer₀ progress₀ turns₀ table line buffer progress turns = Held table₀ line₀ buffer₀ table line buffer progress
+Inv-loop table₀ line₀ buffer₀ step₀ turns₀ table line buffer step turns = Held table₀ line₀ buffer₀ table line buffer (step .progress)
 
 abbrev μ-loop : tie.MeasureT-loop
-μ-loop table₀ line₀ buffer₀ progress₀ turns₀ table line buffer progress turns = turns
-
-loop-holds : tie.Need-loop-holds Inv-loop μ-loop
-loop-holds c = let pre = c .before .before .pre in record { table = refl; line = refl; buffer = refl; kept = pre .kept; place = pre .place }
-
-take-some-requires : tie.Need-take-some-requires Inv-loop μ-loop
-take-some-requires c κs = record { kept = omega arith; place = omega arith }
-
-returns : tie.Need-returns Inv-loop μ-loop
-returns c = record { kept = omega arith; place = omega arith }
-
-loop-again : tie.Need-loop-again Inv-loop μ-loop
-loop-again c = record { table = omega arith; line = omega arith; buffer = omega arith; kept = omega arith; place = omega arith }
+μ-loop table₀ line₀ buffer₀ step₀ turns₀ table line buffer step turns = turns
 
 pub take-all-spec : {M : Type 1} → statement M
 take-all-spec =
     tie.close
-    (tie.spec Inv-loop μ-loop loop-holds take-some-requires
-    (λ c. omega arith) (λ c. omega arith) (λ c. omega arith) returns (λ c. omega arith) (λ c. omega arith) loop-again
-    (λ c. c .before .loop .inv .table) (λ c. c .before .loop .inv .line) (λ c. c .before .loop .inv .buffer) (λ c. sound (c .before .loop .inv)))
+    (tie.spec Inv-loop μ-loop
+    (λ c. record { table = refl; line = refl; buffer = refl; ready = c .before .before .pre })
+    (λ c κs. c .before .before .before .before .before .loop .inv .ready)
+    (λ c. omega arith) (λ c. omega arith) (λ c. omega arith) (λ c. c .before .before .before .before .before .before .before .take-some .ensures)
+    (λ c. omega arith) (λ c. omega arith)
+    (λ c. record { table = omega arith; line = omega arith; buffer = omega arith; ready = c .before .before .before .before .before .before .before .take-some .ensures })
+    (λ c. c .before .loop .inv .table) (λ c. c .before .loop .inv .line) (λ c. c .before .loop .inv .buffer) (λ c. c .before .loop .inv .ready))

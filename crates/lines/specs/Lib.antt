@@ -1,0 +1,4 @@
+pub mod Sessions
+pub mod Standing
+pub mod SessionLaws
+pub mod StandingLaws

@@ -1,0 +1,123 @@
+// Lines cut out of bytes and answered in turn: the work of the program `steps`, without its reads and writes. All here are
+// leaves for our other crates.
+ghost use mathlib.Core.Path.{_≡_};
+ghost use mathlib.Core.List.{List, [], _∷_, _++_};
+ghost use Prim.Native.Nat.{ℕ, _+_, _≤_, _<_};
+ghost use lib.ListN.{length, take};
+ghost use Rattle.replies.specs.Written.{longestLine};
+ghost use Rattle.lines.specs.Sessions.{Session, ended, finished, afterByte, afterBytes};
+ghost use Rattle.lines.specs.Standing.{lineBytes, Sound, Stands};
+use reader::Version;
+
+// A byte more than the longest command: of a longer line these show that it is bad.
+pub const LINE_BYTES: usize = commands::LONGEST_COMMAND + 1;
+
+// What stands between two bytes: the record, how many bytes of the line are kept, and how many of the buffer are replies.
+pub struct Progress {
+    pub version: Version,
+    pub kept: usize,
+    pub place: usize,
+}
+
+// What a run of bytes leaves: what then stands, and how many of the bytes were taken.
+pub struct Taken {
+    pub progress: Progress,
+    pub count: usize,
+}
+
+// A byte of a line is kept where there is room for it.
+fn keep(line: &mut [u8], kept: usize, byte: u8) -> usize
+    requires { ⌜ length (now line) ≡ lineBytes ⌝ }
+    requires { ⌜ kept ≤ lineBytes ⌝ }
+    ensures { λ r. ⌜ r ≤ lineBytes ⌝ }
+    ensures { λ r. ⌜ ((l : List ℕ) → take kept (now (line .entry)) ≡ take lineBytes l → take r (now (line .exit)) ≡ take lineBytes (l ++ (byte ∷ []))) ⌝ }
+{
+    if kept >= LINE_BYTES {
+        return kept;
+    }
+    line[kept] = byte;
+    kept + 1
+}
+
+// The line is answered, and the next begins.
+fn end_line(table: &mut [i64], line: &[u8], buffer: &mut [u8], progress: Progress) -> Progress
+    requires { ⌜ Sound progress (now line) (now buffer) ⌝ }
+    requires { ⌜ progress .place + longestLine ≤ length (now buffer) ⌝ }
+    ensures { λ r. ⌜ Sound r (now (line .entry)) (now (buffer .exit)) ⌝ }
+    ensures { λ r. ⌜ ((s : Session) → Stands s (now (table .entry)) (now (line .entry)) (now (buffer .entry)) progress → Stands (ended s) (now (table .exit)) (now (line .entry)) (now (buffer .exit)) r) ⌝ }
+{
+    let before = progress.version;
+    let kept = progress.kept;
+    let turn = answers::answer(table, before, &line[..kept], buffer, progress.place);
+    let version = turn.version;
+    Progress {
+        version: version,
+        kept: 0,
+        place: turn.place,
+    }
+}
+
+// The last line needs no newline.
+pub fn end_last(table: &mut [i64], line: &[u8], buffer: &mut [u8], progress: Progress) -> Progress
+    requires { ⌜ Sound progress (now line) (now buffer) ⌝ }
+    requires { ⌜ progress .place + longestLine ≤ length (now buffer) ⌝ }
+    ensures { λ r. ⌜ Sound r (now (line .entry)) (now (buffer .exit)) ⌝ }
+    ensures { λ r. ⌜ ((s : Session) → Stands s (now (table .entry)) (now (line .entry)) (now (buffer .entry)) progress → Stands (finished s) (now (table .exit)) (now (line .entry)) (now (buffer .exit)) r) ⌝ }
+{
+    if progress.kept > 0 {
+        return end_line(table, line, buffer, progress);
+    }
+    progress
+}
+
+// A newline ends the line, and any other byte belongs to it.
+fn take_byte(
+    table: &mut [i64],
+    line: &mut [u8],
+    buffer: &mut [u8],
+    mut progress: Progress,
+    byte: u8,
+) -> Progress
+    requires { ⌜ Sound progress (now line) (now buffer) ⌝ }
+    requires { ⌜ progress .place + longestLine ≤ length (now buffer) ⌝ }
+    ensures { λ r. ⌜ Sound r (now (line .exit)) (now (buffer .exit)) ⌝ }
+    ensures { λ r. ⌜ ((s : Session) → Stands s (now (table .entry)) (now (line .entry)) (now (buffer .entry)) progress → Stands (afterByte s byte) (now (table .exit)) (now (line .exit)) (now (buffer .exit)) r) ⌝ }
+{
+    if byte == replies::NEWLINE {
+        return end_line(table, line, buffer, progress);
+    }
+    progress.kept = keep(line, progress.kept, byte);
+    progress
+}
+
+// Bytes in turn, as long as the buffer has room for the longest line.
+pub fn take_bytes(
+    table: &mut [i64],
+    line: &mut [u8],
+    buffer: &mut [u8],
+    mut progress: Progress,
+    input: &[u8],
+) -> Taken
+    requires { ⌜ Sound progress (now line) (now buffer) ⌝ }
+    requires { ⌜ progress .place + longestLine ≤ length (now buffer) ⌝ }
+    ensures { λ r. ⌜ Sound (r .progress) (now (line .exit)) (now (buffer .exit)) ⌝ }
+    ensures { λ r. ⌜ r .count ≤ length (now (input .entry)) ⌝ }
+    ensures { λ r. ⌜ (0 < length (now (input .entry)) → 0 < r .count) ⌝ }
+    ensures { λ r. ⌜ ((s : Session) → Stands s (now (table .entry)) (now (line .entry)) (now (buffer .entry)) progress → Stands (afterBytes s (take (r .count) (now (input .entry)))) (now (table .exit)) (now (line .exit)) (now (buffer .exit)) (r .progress)) ⌝ }
+{
+    let mut i: usize = 0;
+    while i < input.len() {
+        if buffer.len() - progress.place < replies::LONGEST_LINE {
+            return Taken {
+                progress: progress,
+                count: i,
+            };
+        }
+        progress = take_byte(table, line, buffer, progress, input[i]);
+        i += 1;
+    }
+    Taken {
+        progress: progress,
+        count: i,
+    }
+}
