@@ -1,13 +1,13 @@
 -- The tests that the lists of the saves and of load block begin with, and what is known where none of them refuses.
 -- Assumes nothing.
-use mathlib.Core.Path.{_≡_}
+use mathlib.Core.Path.{_≡_, _∙_}
 use mathlib.Core.Bool.{Bool, false}
 use mathlib.Core.List.{List, [], _∷_, _++_}
 use Prim.Native.Nat.{ℕ}
 use lib.IntN.{ℤ, pos}
 use borrow.Author.Tests.{leb-true}
 use Rattle.laws.specs.Tests.{not-no}
-use Rattle.laws.specs.First.{first, none}
+use Rattle.laws.specs.First.{first, none, skip, done}
 use Rattle.laws.specs.Order.{from-to}
 use Rattle.version.specs.declared.Version.{Version}
 use Rattle.version.specs.Record.{badRecord}
@@ -27,11 +27,13 @@ blockTests t v k = idleTests t v ++ (noSuchBlock t k, 5) ∷ []
 abbrev pub slotTests : List ℤ → Version → ℕ → List (Bool × ℕ)
 slotTests t v k = (blockBroken t v k, 6) ∷ []
 
--- ---- what code below the tests requires
+-- ---- no test refuses where each fails
+pub front-passes : (t : List ℤ) (v : Version) (k : ℕ) → badTable t ≡ false → badRecord v ≡ false → v .active ≡ false → noSuchBlock t k ≡ false
+    → first (blockTests t v k) ≡ 0
+front-passes t v k table version idle number = skip 1 _ table ∙ skip 2 _ version ∙ skip 7 _ idle ∙ skip 5 _ number ∙ done
+
+-- ---- what code below the tests requires of the table
 pub within : (t : List ℤ) (v : Version) (k : ℕ) → first (blockTests t v k) ≡ 0 → Within t k
 within t v k h =
     let range = from-to (pos 1) (pos (blocks t)) (pos k) (not-no (none _ tt h 5)) in
     record { sound = none _ tt h 1; low = leb-true 1 k (range .low); high = leb-true k (blocks t) (range .high) }
-
-pub known : (t : List ℤ) (v : Version) (k : ℕ) → first (blockTests t v k) ≡ 0 → badRecord v ≡ false
-known t v k h = none _ tt h 2

@@ -5,6 +5,7 @@ pub mod SaveBlock
 pub mod LoadHeader
 pub mod LoadBlock
 pub mod FrontLaws
+pub mod EndLaws
 pub mod ContractLaws
 pub mod HeaderLaws
 pub mod SlotBlockLaws

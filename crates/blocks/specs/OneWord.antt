@@ -4,14 +4,14 @@ use mathlib.Core.Bool.{false}
 use mathlib.Core.List.{List}
 use Prim.Native.Nat.{ℕ}
 use lib.IntN.{ℤ}
-use Rattle.laws.specs.First.{skip, hit}
 use Rattle.version.specs.declared.Version.{Version}
 use Rattle.version.specs.Record.{badRecord}
 use Rattle.table.specs.Slots.{badTable}
-use Rattle.words.specs.WordLaws.{whole-block}
 use Rattle.words.specs.OneWord.{OneWordChanged, check-wrong}
 use Rattle.blocks.specs.HeaderLaws.{header-saved, header-words}
 use Rattle.blocks.specs.Slots.{noSuchBlock}
+use Rattle.blocks.specs.FrontLaws.{front-passes}
+use Rattle.blocks.specs.EndLaws.{end-15, load-block-end}
 use Rattle.blocks.specs.SlotBlockLaws.{slots-saved, slot-words}
 use Rattle.blocks.specs.SaveHeader.{saveHeaderRefusal, saveHeaderBlock}
 use Rattle.blocks.specs.SaveBlock.{saveBlockRefusal, saveBlockBlock}
@@ -23,14 +23,13 @@ pub header-refused : (t : List ℤ) (v : Version) (changed : List ℕ)
     → saveHeaderRefusal t v ≡ 0 → OneWordChanged (saveHeaderBlock t v) changed → loadHeaderRefusal changed ≡ 15
 unfolding loadHeaderRefusal
 header-refused t v changed allowed one =
-    skip 14 _ (whole-block changed (one .size)) ∙ hit _ (check-wrong _ changed (header-words t v allowed) (rw (header-saved t v allowed) at one))
+    end-15 changed _ (one .size) (check-wrong _ changed (header-words t v allowed) (rw (header-saved t v allowed) at one))
 
 -- and so does a load of slots that no earlier test refuses
 pub block-refused : (t : List ℤ) (v : Version) (k : ℕ) (changed : List ℕ)
     → saveBlockRefusal t v k ≡ 0 → OneWordChanged (saveBlockBlock t v k) changed
     → (u : List ℤ) (v′ : Version) (k′ : ℕ) → badTable u ≡ false → badRecord v′ ≡ false → v′ .active ≡ false → noSuchBlock u k′ ≡ false
     → loadBlockRefusal u v′ k′ changed ≡ 15
-unfolding loadBlockRefusal
 block-refused t v k changed allowed one u v′ k′ table version idle number =
-    skip 1 _ table ∙ skip 2 _ version ∙ skip 7 _ idle ∙ skip 5 _ number ∙ skip 14 _ (whole-block changed (one .size))
-    ∙ hit _ (check-wrong _ changed (slot-words t v k allowed) (rw (slots-saved t v k allowed) at one))
+    load-block-end u v′ k′ changed (front-passes u v′ k′ table version idle number)
+    ∙ end-15 changed _ (one .size) (check-wrong _ changed (slot-words t v k allowed) (rw (slots-saved t v k allowed) at one))

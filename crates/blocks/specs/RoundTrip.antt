@@ -10,9 +10,9 @@ use native.Mathlib.Omega.{arith}
 use lib.Dec.{ltb}
 use lib.IntN.{ℤ}
 use lib.ListN.{length}
-use borrow.Author.Tests.{ltb-true, ltb-false}
-use Rattle.laws.specs.Tests.{by-test}
-use Rattle.laws.specs.First.{none, skip, done}
+use borrow.Author.Tests.{ltb-false}
+use Rattle.laws.specs.Tests.{by-test, by-order}
+use Rattle.laws.specs.First.{none}
 use Rattle.laws.specs.Lowest.{none-passes}
 use Rattle.version.specs.declared.Version.{Version}
 use Rattle.table.specs.Slots.{badTable, slots, slotAt}
@@ -20,7 +20,7 @@ use Rattle.table.specs.SlotLaws.{slotAt-past, same-length, by-slots}
 use Rattle.table.specs.Formed.{broken}
 use Rattle.table.specs.FormedLaws.{empty-zeros}
 use Rattle.words.specs.Words.{blockOf}
-use Rattle.words.specs.WordLaws.{block-whole, block-word, check-right, filler-zero}
+use Rattle.words.specs.WordLaws.{block-length, block-word, check-right, filler-zero}
 use Rattle.words.specs.Longs.{blockSlots}
 use Rattle.loads.specs.Slots.{blocks, firstSlot, slotWrong, slotBlockWrong, loadedTo}
 use Rattle.loads.specs.AllowedLaws.{slots-allowed}
@@ -28,8 +28,9 @@ use Rattle.loads.specs.LoadedLaws.{loaded-length, loaded-other, loaded-same}
 use Rattle.blocks.specs.declared.Header.the-variants.{Of}
 use Rattle.blocks.specs.declared.Loaded.the-variants.{Done}
 use Rattle.blocks.specs.HeaderLaws.{header-saved, header-words, header-right, header-read}
+use Rattle.blocks.specs.EndLaws.{end-0, load-block-end}
 use Rattle.blocks.specs.Slots.{blockBroken, slotsFrom, slotBlockWords}
-use Rattle.blocks.specs.SlotBlockLaws.{Fitting, table-sound, slots-saved, slot-words, slot-back}
+use Rattle.blocks.specs.SlotBlockLaws.{Fitting, front, table-sound, slots-saved, slot-words, slot-back}
 use Rattle.blocks.specs.SaveHeader.{saveHeaderRefusal, saveHeaderBlock}
 use Rattle.blocks.specs.SaveBlock.{saveBlockRefusal, saveBlockBlock}
 use Rattle.blocks.specs.LoadHeader.{loadHeaderRefusal, loadHeaderAnswer}
@@ -42,8 +43,7 @@ module _ (t : List ℤ) (v : Version) (allowed : saveHeaderRefusal t v ≡ 0) wh
   unfolding loadHeaderRefusal
   header-loads =
       let made = header-words t v allowed in
-      rw (header-saved t v allowed)
-      (skip 14 _ (block-whole _ made) ∙ skip 15 _ (check-right _ made) ∙ skip 16 _ (header-right t v allowed) ∙ done)
+      rw (header-saved t v allowed) (end-0 _ _ (block-length _ made) (check-right _ made) (header-right t v allowed))
 
   -- and answers the slots of the table and the current version
   pub header-back : loadHeaderAnswer (saveHeaderBlock t v) ≡ Of (slots t) (v .current)
@@ -62,10 +62,6 @@ beyond : (t u : List ℤ) → length u ≡ length t → badTable t ≡ false →
 beyond t u same sound j h = slotAt-past u j (same-length t u same ∙ sound) (rw same h) ∙ sym (slotAt-past t j sound h)
 
 module _ (t u : List ℤ) (v : Version) (k : ℕ) (fitting : Fitting t) (same : length u ≡ length t) (allowed : saveBlockRefusal t v k ≡ 0) where
-  -- the other table is not refused either
-  sound : badTable u ≡ false
-  sound = same-length t u same ∙ table-sound t v k allowed
-
   -- each slot of the block is one that a load takes: well formed in the table, and zero beyond it
   slot-right : (j : ℕ) → j < blockSlots → slotWrong u v k (blockOf (slotBlockWords t k)) j ≡ false
   unfolding saveBlockRefusal blockBroken
@@ -84,33 +80,27 @@ module _ (t u : List ℤ) (v : Version) (k : ℕ) (fitting : Fitting t) (same : 
 
   -- a load of it is not refused
   pub block-loads : loadBlockRefusal u v k (saveBlockBlock t v k) ≡ 0
-  unfolding loadBlockRefusal saveBlockRefusal
   block-loads =
       let made = slot-words t v k allowed in
       rw (slots-saved t v k allowed)
-      (skip 1 _ sound ∙ skip 2 _ (none _ tt allowed 2) ∙ skip 7 _ (none _ tt allowed 7) ∙ skip 5 _ (rw same (none _ tt allowed 5))
-      ∙ skip 14 _ (block-whole _ made) ∙ skip 15 _ (check-right _ made) ∙ skip 16 _ slots-right ∙ done)
+      (load-block-end u v k _ (rw (same-length t u same, same) (front t v k allowed)) ∙ end-0 _ _ (block-length _ made) (check-right _ made) slots-right)
 
   -- and is done
   pub block-done : loadBlockAnswer u v k (saveBlockBlock t v k) ≡ Done
   unfolding loadBlockAnswer
   block-done = rw block-loads
 
-  written : loadBlockWords u v k (saveBlockBlock t v k) ≡ loadedTo u k (blockOf (slotBlockWords t k)) blockSlots
-  unfolding loadBlockWords
-  written = rw (block-loads, slots-saved t v k allowed)
-
   slot-same : (i : ℕ) → i < blockSlots → slotAt (loadedTo u k (blockOf (slotBlockWords t k)) blockSlots) (firstSlot k + i) ≡ slotAt t (firstSlot k + i)
   slot-same i a =
       let block = blockOf (slotBlockWords t k) in
-      by-test (ltb (firstSlot k + i) (slots u))
-      (λ y. loaded-same u k block sound blockSlots i a (ltb-true (firstSlot k + i) (slots u) y) ∙ slot-back t v k allowed fitting i a)
-      (λ m. beyond t _ (loaded-length u k block blockSlots ∙ same) (table-sound t v k allowed) (firstSlot k + i)
-      (omega (arith, ltb-false (firstSlot k + i) (slots u) m)))
+      by-order (firstSlot k + i) (slots u)
+      (λ l. loaded-same u k block (same-length t u same ∙ table-sound t v k allowed) blockSlots i a l ∙ slot-back t v k allowed fitting i a)
+      (λ g. beyond t _ (loaded-length u k block blockSlots ∙ same) (table-sound t v k allowed) (firstSlot k + i) (omega arith))
 
   -- it writes the slots of the block as they were saved, and no other
   pub block-back : Restored t u (loadBlockWords u v k (saveBlockBlock t v k)) (firstSlot k) blockSlots
-  block-back = rw written (record {
+  unfolding loadBlockWords
+  block-back = rw (block-loads, slots-saved t v k allowed) (record {
     whole = loaded-length u k (blockOf (slotBlockWords t k)) blockSlots;
     inside = λ j l h. let e : firstSlot k + (j - firstSlot k) ≡ j = omega arith in rw e at (slot-same (j - firstSlot k) (omega arith));
     outside = λ j out. loaded-other u k (blockOf (slotBlockWords t k)) blockSlots j (λ i a e. out (omega arith, omega arith));
@@ -138,15 +128,13 @@ module _ (t u : List ℤ) (v : Version) (fitting : Fitting t) (sound : badTable 
   all-slots zero h j l = absurd (omega arith)
   all-slots (suc n) h j l =
       let step = next n h (all-length n (omega arith)) in
-      by-test (ltb j (n * blockSlots))
-      (λ y. step .outside j (omega (arith, ltb-true j (n * blockSlots) y)) ∙ all-slots n (omega arith) j (ltb-true j (n * blockSlots) y))
-      (λ m. step .inside j (omega (arith, ltb-false j (n * blockSlots) m)) (omega arith))
+      by-order j (n * blockSlots)
+      (λ b. step .outside j (omega arith) ∙ all-slots n (omega arith) j b)
+      (λ g. step .inside j (omega arith) (omega arith))
 
   -- so the whole table is back
   pub all-back : loadAll t v u (blocks t) ≡ t
   all-back =
       let whole = all-length (blocks t) (omega arith) in
       by-slots _ t whole
-      (λ j. by-test (ltb j (slots t))
-      (λ y. all-slots (blocks t) (omega arith) j (omega (arith, ltb-true j (slots t) y)))
-      (λ m. beyond t _ whole sound j (ltb-false j (slots t) m)))
+      (λ j. by-order j (slots t) (λ l. all-slots (blocks t) (omega arith) j (omega arith)) (beyond t _ whole sound j))

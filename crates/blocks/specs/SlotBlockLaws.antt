@@ -15,13 +15,10 @@ use lib.Seq.{sets}
 use mir.Syntax.{w64}
 use mir.Val.{SFits, ofZ}
 use mir.ValLaws.{ofZ-fits}
-use borrow.Author.Tests.{leb-true}
-use Rattle.laws.specs.Tests.{not-no}
-use Rattle.laws.specs.Order.{FromTo, from-to}
 use Rattle.laws.specs.Bits.{plain}
 use Rattle.laws.specs.First.{first, none, hit, skip, done}
 use Rattle.laws.specs.Lowest.{some-yes, all-fail}
-use Rattle.laws.specs.Digits.{digits, EachBelow, digits-length, digits-below, number-digits}
+use Rattle.laws.specs.Digits.{digits, EachBelow, digits-below, number-digits}
 use Rattle.version.specs.declared.Version.{Version}
 use Rattle.table.specs.declared.Slot.{Slot}
 use Rattle.table.specs.Slots.{slotWords, badTable, wordsOf, word, slotAt, empty}
@@ -33,9 +30,9 @@ use Rattle.words.specs.WordLaws.{BlockWords, block-word}
 use Rattle.words.specs.WrittenLaws.{Written, Follow, whole}
 use Rattle.words.specs.LongLaws.{slot-of-words}
 use Rattle.words.specs.Longs.{blockSlots, halves, halvesOf, longAt, blockSlot}
-use Rattle.loads.specs.Slots.{blocks, firstSlot}
+use Rattle.loads.specs.Slots.{firstSlot}
 use Rattle.blocks.specs.Slots.{slotsFrom, slotBlockWords, blockBroken}
-use Rattle.blocks.specs.FrontLaws.{slotTests}
+use Rattle.blocks.specs.FrontLaws.{blockTests, slotTests, front-passes, within}
 use Rattle.blocks.specs.SaveBlock.{saveBlockRefusal, saveBlockBlock}
 
 -- the words of a table are machine words
@@ -43,15 +40,12 @@ abbrev pub Fitting : List ℤ → Type 0
 Fitting t = (i : ℕ) → SFits w64 (word t i)
 
 -- ---- halves in their groups: two to a word, sixteen to a slot
-halves-length : (z : ℤ) → length (halves z) ≡ 2
-halves-length z = digits-length wordBase 2 (ofZ w64 z)
-
 slotHalves : Slot → List ℕ
 slotHalves x = flatMap halves (wordsOf x)
 
 slotHalves-length : (x : Slot) → length (slotHalves x) ≡ 16
-unfolding slotHalves
-slotHalves-length x = groups-length halves 2 halves-length (wordsOf x)
+unfolding slotHalves flatMap
+slotHalves-length x = refl
 
 slotHalves-below : (x : Slot) → EachBelow wordBase (slotHalves x)
 unfolding slotHalves
@@ -101,7 +95,7 @@ half-at t from m j n h a b c =
       groups-at slotHalves 16 slotHalves-length (slotsAt t from m) j (n * 2 + h) empty 0 (rw slotsAt-length a) (omega arith),
       slotsAt-at t from m j a,
     )
-    (groups-at halves 2 halves-length (wordsOf (slotAt t (from + j))) n h (pos 0) 0 b c)
+    (groups-at halves 2 (λ z. refl) (wordsOf (slotAt t (from + j))) n h (pos 0) 0 b c)
 
 -- ---- a block while its slots are written: its number, and so many of them
 abbrev pub numbered : List ℤ → ℕ → ℕ → List ℕ
@@ -131,15 +125,14 @@ module _ (t : List ℤ) (v : Version) (k : ℕ) where
 
 -- ---- a save that is not refused
 module _ (t : List ℤ) (v : Version) (k : ℕ) (allowed : saveBlockRefusal t v k ≡ 0) where
-  -- the table is not refused
-  pub table-sound : badTable t ≡ false
+  -- the tests before its slots do not refuse it
+  pub front : first (blockTests t v k) ≡ 0
   unfolding saveBlockRefusal
-  table-sound = none _ tt allowed 1
+  front = front-passes t v k (none _ tt allowed 1) (none _ tt allowed 2) (none _ tt allowed 7) (none _ tt allowed 5)
 
-  -- there is such a block
-  within : FromTo (pos 1) (pos (blocks t)) (pos k)
-  unfolding saveBlockRefusal
-  within = from-to _ _ _ (not-no (none _ tt allowed 5))
+  -- so the table is sound
+  pub table-sound : badTable t ≡ false
+  table-sound = within t v k front .sound
 
   -- the block is that of its slots' words
   pub slots-saved : saveBlockBlock t v k ≡ blockOf (slotBlockWords t k)
@@ -152,7 +145,7 @@ module _ (t : List ℤ) (v : Version) (k : ℕ) (allowed : saveBlockRefusal t v 
   slot-words = record { size = refl; below = below }
     where
       below : EachBelow wordBase (k ∷ slotsFrom t (firstSlot k) blockSlots ++ replicate 14 0)
-      below zero = omega (arith, leb-true k (blocks t) (within .high), lengths t table-sound .few)
+      below zero = omega (arith, within t v k front .high, lengths t table-sound .few)
       below (suc i) =
           append-below wordBase (slotsFrom t (firstSlot k) blockSlots) (replicate 14 0) (slotsFrom-below t (firstSlot k) blockSlots)
           (zeros-below wordBase (omega arith) 14) i

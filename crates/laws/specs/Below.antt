@@ -3,13 +3,11 @@
 use mathlib.Core.Path.{_≡_, sym, subst}
 use Prim.Native.Nat.{ℕ, _+_, _<_}
 use native.Mathlib.Omega.{arith}
-use lib.Dec.{ltb}
-use borrow.Author.Tests.{ltb-true, ltb-false}
-use Rattle.laws.specs.Tests.{by-test}
+use Rattle.laws.specs.Tests.{by-order}
 
 pub one-more : {P : ℕ → Type 0} {k : ℕ} → ((j : ℕ) → j < k → P j) → P k → (j : ℕ) → j < k + 1 → P j
 one-more {P} {k} b h j l =
-    by-test (ltb j k) (λ y. b j (ltb-true j k y)) (λ n. let e : j ≡ k = omega (arith, ltb-false j k n) in subst P (sym e) h)
+    by-order j k (b j) (λ g. let e : j ≡ k = omega arith in subst P (sym e) h)
 
 pub four-more : {P : ℕ → Type 0} {k : ℕ} → ((j : ℕ) → j < k → P j) → P k → P (k + 1) → P (k + 2) → P (k + 3) → (j : ℕ) → j < k + 4 → P j
 four-more {P} {k} b e f g h j l =

@@ -4,11 +4,11 @@
 use mathlib.Core.Path.{_≡_, refl, _∙_}
 use mathlib.Core.Bool.{Bool, true, false}
 use lib.Dec.{ltb}
-use borrow.Author.Tests.{ltb-true, ltb-false, lt-ltb}
+use borrow.Author.Tests.{ltb-true, lt-ltb}
 use Prim.Native.Nat.{ℕ, zero, suc, _+_, _≤_, _<_, suc-le-suc, zero-le}
 use native.Mathlib.Nat.{le-of-suc-le-suc, not-suc-le-zero, lt-of-le-of-lt}
 use native.Mathlib.Omega.{arith}
-use Rattle.laws.specs.Tests.{by-test, clash}
+use Rattle.laws.specs.Tests.{by-test, by-order, clash}
 use Rattle.laws.specs.Below.{one-more}
 
 unfoldable pub lowest : (ℕ → Bool) → ℕ → ℕ
@@ -42,16 +42,13 @@ lowest-is p (suc n) = go (p zero) refl (lowest-is (λ k. p (suc k)) n)
 -- and nothing else is
 pub lowest-only : {p : ℕ → Bool} {n a b : ℕ} → Lowest p n a → Lowest p n b → a ≡ b
 lowest-only {p} {n} {a} {b} x y =
-    by-test (ltb a b)
-    (λ h. let l : a < b = ltb-true a b h in clash (x .passes (omega (arith, y .within))) (y .below a l))
-    (λ h. by-test (ltb b a)
-    (λ g. let l : b < a = ltb-true b a g in clash (y .passes (omega (arith, x .within))) (x .below b l))
-    (λ g. omega (arith, ltb-false a b h, ltb-false b a g)))
+    by-order a b
+    (λ l. clash (x .passes (omega (arith, y .within))) (y .below a l))
+    (λ g. by-order b a (λ l. clash (y .passes (omega (arith, x .within))) (x .below b l)) (λ h. omega arith))
 
 -- what an index that passes says of it: it is no higher
 pub lowest-le : {p : ℕ → Bool} {n r k : ℕ} → Lowest p n r → p k ≡ true → r ≤ k
-lowest-le {p} {n} {r} {k} l h =
-    by-test (ltb k r) (λ y. clash h (l .below k (ltb-true k r y))) (λ m. ltb-false k r m)
+lowest-le {p} {n} {r} {k} l h = by-order k r (λ b. clash h (l .below k b)) (λ g. g)
 
 -- a test that agrees below the bound gives the same index
 pub lowest-agrees : (p q : ℕ → Bool) (n : ℕ) → ((k : ℕ) → k < n → p k ≡ q k) → lowest p n ≡ lowest q n

@@ -4,13 +4,19 @@
 use mathlib.Core.Path.{_≡_, refl, sym, ap, _∙_, subst}
 use mathlib.Core.Bool.{Bool, true, false, false≢true, not, _&&_, _||_}
 use mathlib.Core.List.{List, [], _∷_, map}
-use Prim.Native.Nat.{ℕ, zero, suc}
+use Prim.Native.Nat.{ℕ, zero, suc, _≤_, _<_}
+use lib.Dec.{ltb}
 use lib.ListN.{getD, List·getD-map}
+use borrow.Author.Tests.{ltb-true, ltb-false}
 
 -- ---- going by a test
 pub by-test : {P : Type 0} (t : Bool) → (t ≡ true → P) → (t ≡ false → P) → P
 by-test true f g = f refl
 by-test false f g = g refl
+
+-- by the order of two numbers
+pub by-order : {P : Type 0} (a b : ℕ) → (a < b → P) → (b ≤ a → P) → P
+by-order a b f g = by-test (ltb a b) (λ y. f (ltb-true a b y)) (λ n. g (ltb-false a b n))
 
 pub clash : {P : Type 0} {t : Bool} → t ≡ true → t ≡ false → P
 clash y n = absurd (false≢true (sym n ∙ y))

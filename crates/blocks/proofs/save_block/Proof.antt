@@ -2,8 +2,8 @@
 -- Assumes nothing.
 use mathlib.Core.Path.{_≡_, sym, _∙_}
 use borrow.Author.Needs.{needs}
-use Rattle.laws.specs.First.{first, pass, stop}
-use Rattle.blocks.specs.FrontLaws.{blockTests, within, known}
+use Rattle.laws.specs.First.{first, none, pass, stop}
+use Rattle.blocks.specs.FrontLaws.{blockTests, within}
 use Rattle.blocks.specs.SaveBlock.{saveBlockRefusal}
 use Rattle.blocks.specs.ContractLaws.{zeros-handed, block-saved}
 use Rattle.blocks.proofs.save_block.Statement.{statement}
@@ -16,21 +16,16 @@ refuses : tie.Need-returns
 unfolding saveBlockRefusal
 refuses c =
     let t = c .before in
-    let a = t .before .before .args in
-    block-saved {t = a .table .now} {v = a .version} {k = a .number}
-    (stop (blockTests (a .table .now) (a .version) (a .number)) _ _ (sym (t .before .block-refusal .ensures)) (t .if1 .taken))
+    block-saved
+    (stop (blockTests _ _ (t .before .before .args .number)) _ _ (sym (t .before .block-refusal .ensures)) (t .if1 .taken))
     (zeros-handed _ (c .refused .ensures) (t .if1 .taken))
 
 hands : tie.Need-returns-2
 unfolding saveBlockRefusal
-hands c =
-    let a = c .before .before .before .args in
-    block-saved (pass (blockTests (a .table .now) (a .version) (a .number)) _ tt (past5 (c .before))) (c .save-slots .ensures)
+hands c = block-saved (pass (blockTests _ _ (c .before .before .before .args .number)) _ tt (past5 (c .before))) (c .save-slots .ensures)
 
 requires : tie.Need-save-slots-requires
-requires c κs =
-    let a = c .before .before .args in
-    (within (a .table .now) (a .version) (a .number) (past5 c), known (a .table .now) (a .version) (a .number) (past5 c))
+requires c κs = (within _ _ _ (past5 c), none _ tt (past5 c) 2)
 
 pub save-block-spec : {M : Type 1} → statement M
 save-block-spec = tie.close (tie.spec (λ c κs. search needs) (λ c κs. search needs) refuses requires hands)
