@@ -65,10 +65,6 @@ module _ (ws : List ℕ) (made : BlockWords ws) where
   unfolding blockOf
   block-length = rw (bytes-length, length-append, made .size)
 
-  -- so its length is not refused
-  pub block-whole : notBlock (blockOf ws) ≡ false
-  block-whole = whole-block (blockOf ws) block-length
-
   -- each below 256
   pub block-below : EachBelow byteBase (blockOf ws)
   unfolding blockOf
@@ -93,15 +89,14 @@ module _ (ws : List ℕ) (made : BlockWords ws) where
   pub check-right : checkWrong (blockOf ws) ≡ false
   unfolding checkWrong
   check-right =
-      let whole = total-words (blockOf ws) ws checkPlace (omega arith) block-word ∙ ap total (take-all checkPlace ws (omega arith)) in
-      ap not (eq-eqb _ _ (block-check ∙ ap (λ n. n % wordBase) (sym whole)))
+      rw (block-check, total-words (blockOf ws) ws checkPlace (omega arith) block-word, take-all checkPlace ws (omega arith)) (ap not (eq-eqb (total ws % wordBase) _ refl))
 
   -- where it was made of some words and zeros, no filler is nonzero
   pub filler-zero : (front : List ℕ) (count : ℕ) → ws ≡ front ++ replicate count 0 → nonzero (blockOf ws) (length front) count ≡ false
   filler-zero front count e = all-fail _ count (λ i h. ap not (eq-eqb _ _ (zero-at i h)))
     where
       counted : length front + count ≡ checkPlace
-      counted = sym (ap (λ n. length front + n) (length-replicate count 0)) ∙ sym (length-append front _) ∙ sym (ap length e) ∙ made .size
+      counted = rw (e, length-append, length-replicate) at (made .size)
 
       zero-at : (i : ℕ) → i < count → wordAt (blockOf ws) (length front + i) ≡ 0
       zero-at i h = block-word (length front + i) (omega (arith, counted)) ∙ rw (e, getD-append-add) (getD-replicate count i 0 0 h)

@@ -2,7 +2,7 @@
 use mathlib.Core.Path.{_≡_, sym, ap, _∙_}
 use mathlib.Core.Bool.{Bool, false, not}
 use mathlib.Core.List.{List}
-use Prim.Native.Nat.{ℕ, _+_, _≤_, _<_, _-_}
+use Prim.Native.Nat.{ℕ, _+_, _<_, _-_}
 use native.Mathlib.Omega.{arith}
 use lib.Dec.{eqb}
 use borrow.Author.Needs.{needs}
@@ -16,26 +16,25 @@ abbrev nonzeroAt : List ℕ → ℕ → ℕ → Bool
 nonzeroAt block from i = not (eqb (wordAt block (from + i)) 0)
 
 abbrev Inv-loop : tie.InvT-loop
-Inv-loop block from count i₀ i = (i ≤ count) × ((j : ℕ) → j < i → nonzeroAt block from j ≡ false)
+Inv-loop block from count i₀ i = (j : ℕ) → j < i → nonzeroAt block from j ≡ false
 
 abbrev μ-loop : tie.MeasureT-loop
 μ-loop block from count i₀ i = count - i
 
 returns : tie.Need-returns Inv-loop μ-loop
 returns c =
-    let l = c .before .before .before in
-    sym (some-yes _ _ (l .loop .i) (omega arith) (ap not (ne-eqb _ _ (rw (c .before .word-at .ensures) at (c .if1 .taken)))))
+    sym (some-yes _ _ (c .before .before .before .loop .i) (omega arith) (ap not (ne-eqb _ _ (rw (c .before .word-at .ensures) at (c .if1 .taken)))))
 
 loop-again : tie.Need-loop-again Inv-loop μ-loop
 loop-again c =
     let l = c .before .before .before in
     let a = l .before .before .args in
-    (omega arith, below-next {p = nonzeroAt (a .block .now) (a .from)} (l .loop .inv .1) (ap not (eq-eqb _ _ (sym (c .before .word-at .ensures) ∙ c .if1 .left))))
+    below-next {p = nonzeroAt (a .block .now) (a .from)} (l .loop .inv) (ap not (eq-eqb _ _ (sym (c .before .word-at .ensures) ∙ c .if1 .left)))
 
 returns-2 : tie.Need-returns-2 Inv-loop μ-loop
-returns-2 c = sym (all-fail _ _ (λ j h. c .before .loop .inv .1 j (omega arith)))
+returns-2 c = sym (all-fail _ _ (λ j h. c .before .loop .inv j (omega arith)))
 
 pub is-nonzero-spec : {M : Type 1} → statement M
 is-nonzero-spec =
     tie.close
-    (tie.spec Inv-loop μ-loop (λ c. (omega arith, λ j h. absurd (omega arith))) (λ c. search needs) (λ c κs. search needs) returns (λ c. search needs) (λ c. search needs) loop-again returns-2)
+    (tie.spec Inv-loop μ-loop (λ c j h. absurd (omega arith)) (λ c. search needs) (λ c κs. search needs) returns (λ c. search needs) (λ c. search needs) loop-again returns-2)

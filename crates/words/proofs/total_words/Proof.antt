@@ -1,5 +1,5 @@
 -- `words::total_words` meets its contract: the sum is the total of the words passed, wrapping. Assumes nothing.
-use mathlib.Core.Path.{_≡_, ap, _∙_}
+use mathlib.Core.Path.{_≡_}
 use Prim.Native.Nat.{_≤_, _-_, _%_}
 use native.Mathlib.Numerals.{add-one}
 use native.Mathlib.Omega.{arith}
@@ -21,7 +21,7 @@ returns : tie.Need-returns Inv-loop μ-loop
 returns c =
     let l = c .before in
     let all : l .loop .i ≡ checkPlace = omega arith in
-    l .loop .inv .1 ∙ ap (λ n. totalTo (l .before .before .args .block .now) n % wordBase) all
+    rw all at (l .loop .inv .1)
 
 pub total-words-spec : {M : Type 1} → statement M
 total-words-spec =

@@ -35,9 +35,8 @@ loop-again c = let l = c .before .before .before .before in (omega arith, loaded
 returns : tie.Need-returns Inv-loop μ-loop
 returns c =
     let l = c .before in
-    let a = l .before .before .args in
     let all : l .loop .written ≡ blockSlots = omega arith in
-    l .loop .inv .1 ∙ ap (loadedTo (a .table .now) (a .number) (a .block .now)) all
+    rw all at (l .loop .inv .1)
 
 pub load-slots-spec : {M : Type 1} → statement M
 load-slots-spec =

@@ -1,7 +1,7 @@
 -- `loads::slots::some_slot_wrong` meets its contract: no slot passed is wrong. Assumes nothing.
-use mathlib.Core.Path.{_≡_, sym, _∙_}
+use mathlib.Core.Path.{_≡_, sym}
 use mathlib.Core.Bool.{false}
-use Prim.Native.Nat.{ℕ, _≤_, _<_, _-_}
+use Prim.Native.Nat.{ℕ, _<_, _-_}
 use native.Mathlib.Omega.{arith}
 use borrow.Author.Needs.{needs}
 use Rattle.laws.specs.Lowest.{below-next, some-yes, all-fail}
@@ -11,34 +11,25 @@ use Rattle.loads.proofs.slots.some_slot_wrong.Statement.{statement}
 use Rattle.loads.proofs.slots.some_slot_wrong.Tie as tie
 
 abbrev Inv-loop : tie.InvT-loop
-Inv-loop table version number block tested₀ tested = (tested ≤ blockSlots) × ((i : ℕ) → i < tested → slotWrong table version number block i ≡ false)
+Inv-loop table version number block tested₀ tested = (i : ℕ) → i < tested → slotWrong table version number block i ≡ false
 
 abbrev μ-loop : tie.MeasureT-loop
 μ-loop table version number block tested₀ tested = blockSlots - tested
 
--- the test was that of the slot at the place
-test : (c : tie.After-slot-wrong Inv-loop μ-loop) → let l = c .before .before in
-    let a = l .before .before .args in
-    c .slot-wrong .result ≡ slotWrong (a .table .now) (a .version) (a .number) (a .block .now) (l .loop .tested)
-test c = c .slot-wrong .ensures
-
 returns : tie.Need-returns Inv-loop μ-loop
-returns c =
-    let l = c .before .before .before in
-    sym (some-yes _ _ (l .loop .tested) (omega arith) (sym (test (c .before)) ∙ c .if1 .taken))
+returns c = sym (some-yes _ _ (c .before .before .before .loop .tested) (omega arith) (rw (c .before .slot-wrong .ensures) at (c .if1 .taken)))
 
 loop-again : tie.Need-loop-again Inv-loop μ-loop
 loop-again c =
     let l = c .before .before .before in
     let a = l .before .before .args in
-    let wrong = slotWrong (a .table .now) (a .version) (a .number) (a .block .now) in
-    (omega arith, below-next {p = wrong} (l .loop .inv .1) (sym (test (c .before)) ∙ c .if1 .left))
+    below-next {p = slotWrong (a .table .now) (a .version) (a .number) (a .block .now)} (l .loop .inv) (rw (c .before .slot-wrong .ensures) at (c .if1 .left))
 
 returns-2 : tie.Need-returns-2 Inv-loop μ-loop
-returns-2 c = sym (all-fail _ _ (λ i h. c .before .loop .inv .1 i (omega arith)))
+returns-2 c = sym (all-fail _ _ (λ i h. c .before .loop .inv i (omega arith)))
 
 pub some-slot-wrong-spec : {M : Type 1} → statement M
 some-slot-wrong-spec =
     tie.close
-    (tie.spec Inv-loop μ-loop (λ c. (omega arith, λ i h. absurd (omega arith))) (λ c κs. search needs) returns
+    (tie.spec Inv-loop μ-loop (λ c i h. absurd (omega arith)) (λ c κs. search needs) returns
     (λ c. search needs) (λ c. search needs) loop-again returns-2)

@@ -2,10 +2,10 @@
 -- without its complement. Assumes nothing.
 use mathlib.Core.Path.{_≡_}
 use native.Mathlib.Omega.{arith}
-use lib.IntN.{pos}
+use lib.IntN.{pos, negsuc, _-ℤ_}
 use lib.Signed.{mag}
 use mir.Syntax.{w64}
-use mir.Val.{toZ}
+use mir.Val.{toZ, ofZ}
 use mir.ValLaws.{toZ-pos}
 use Rattle.laws.specs.Bits.{plain}
 use Rattle.laws.specs.Signs.{FromZero, from-zero, BelowZero, below-zero}
@@ -19,8 +19,8 @@ down : (c : tie.Else1) → BelowZero (c .before .args .long)
 down c = below-zero _ (rw (plain _ (c .before .fits .long)) at (c .if1 .left))
 
 -- the complement, as the code has it
-flipped : (c : tie.Else1) → toZ w64 (mag (c .before .args .long)) ≡ pos (mag (c .before .args .long))
-flipped c = toZ-pos w64 _ (c .before .fits .long .sfits)
+flipped : (c : tie.Else1) → let z = c .before .args .long in toZ w64 (ofZ w64 (negsuc 0 -ℤ toZ w64 (ofZ w64 z))) ≡ pos (mag z)
+flipped c = let f = c .before .fits .long in rw (plain _ f, down c .complement) (toZ-pos w64 _ (f .sfits))
 
 cast-result : tie.Need-cast-result
 cast-result c = rw (plain _ (c .before .fits .long)) (up c .positive, up c .fits)
@@ -32,17 +32,13 @@ sub-ones : tie.Need-sub-ones
 sub-ones c = rw (plain _ (c .before .fits .long), down c .complement) (record { sfits = c .before .fits .long .sfits })
 
 cast-result-2 : tie.Need-cast-result-2
-cast-result-2 c =
-    let f = c .before .fits .long in
-    rw (plain _ f, down c .complement, flipped c) (tt, record { fits = omega (arith, f .sfits) })
+cast-result-2 c = rw (flipped c) (tt, record { fits = omega (arith, c .before .fits .long .sfits) })
 
 sub-result : tie.Need-sub-result
-sub-result c =
-    let f = c .before .fits .long in
-    rw (plain _ f, down c .complement, flipped c) (omega (arith, f .sfits))
+sub-result c = rw (flipped c) (omega (arith, c .before .fits .long .sfits))
 
 returns-2 : tie.Need-returns-2
-returns-2 c = rw (plain _ (c .before .fits .long), down c .complement, flipped c) (down c .bits)
+returns-2 c = rw (flipped c) (down c .bits)
 
 pub bits-of-spec : {M : Type 1} → statement M
 bits-of-spec = tie.close (tie.spec cast-result returns sub-ones cast-result-2 sub-result returns-2)
