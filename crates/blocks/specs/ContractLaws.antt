@@ -1,5 +1,5 @@
 -- How each contract is shown: by a refusal that is given, or by what is done where nothing is refused. Assumes nothing.
-use mathlib.Core.Path.{_≡_, refl, sym, _∙_}
+use mathlib.Core.Path.{_≡_, refl, _∙_}
 use mathlib.Core.List.{List}
 use Prim.Native.Nat.{ℕ}
 use lib.IntN.{ℤ}
@@ -35,11 +35,11 @@ zeros-handed words h z = record { refusal = h .refusal; block = h .block ∙ unl
 -- and so a header or a block is saved
 pub header-saved : {t : List ℤ} {v : Version} {r : Saved} {n : ℕ} → saveHeaderRefusal t v ≡ n → Hands r n (headerWords t v) → HeaderSaved t v r
 unfolding saveHeaderBlock
-header-saved e h = record { refusal = h .refusal ∙ sym e; block = rw e (h .block) }
+header-saved e h = search (rw (← e) at h)
 
 pub block-saved : {t : List ℤ} {v : Version} {k : ℕ} {r : Saved} {n : ℕ} → saveBlockRefusal t v k ≡ n → Hands r n (slotBlockWords t k) → BlockSaved t v k r
 unfolding saveBlockBlock
-block-saved e h = record { refusal = h .refusal ∙ sym e; block = rw e (h .block) }
+block-saved e h = search (rw (← e) at h)
 
 -- ---- load header
 module _ {block : List ℕ} where
@@ -49,7 +49,7 @@ module _ {block : List ℕ} where
 
   pub header-loaded : {r : Header} → loadHeaderRefusal block ≡ 0 → r ≡ headerOf block → HeaderLoaded block r
   unfolding loadHeaderAnswer
-  header-loaded e h = record { answer = unless-done header.Refused e h }
+  header-loaded e h = search unless-done
 
 -- ---- load block
 module _ {t : List ℤ} {v : Version} {k : ℕ} {block : List ℕ} where
@@ -62,4 +62,4 @@ module _ {t : List ℤ} {v : Version} {k : ℕ} {block : List ℕ} where
 
   pub block-loaded : {u : List ℤ} → loadBlockRefusal t v k block ≡ 0 → u ≡ loadedTo t k block blockSlots → BlockLoaded t v k block Done u
   unfolding loadBlockAnswer loadBlockWords
-  block-loaded e h = record { answer = unless-done loaded.Refused e refl; words = unless-done (λ n. t) e h }
+  block-loaded e h = search unless-done

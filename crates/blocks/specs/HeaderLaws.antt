@@ -17,8 +17,8 @@ use Rattle.laws.specs.Digits.{EachBelow}
 use Rattle.version.specs.declared.Version.{Version}
 use Rattle.version.specs.Record.{largestVersion, badRecord}
 use Rattle.version.specs.RecordLaws.{sound}
-use Rattle.table.specs.Slots.{badTable, slots}
-use Rattle.table.specs.SlotLaws.{lengths}
+use Rattle.table.specs.Slots.{slots}
+use Rattle.table.specs.SlotLaws.{Lengths, lengths}
 use Rattle.words.specs.Words.{checkPlace, wordBase, blockOf, wordAt}
 use Rattle.words.specs.Groups.{zeros-below}
 use Rattle.words.specs.WordLaws.{BlockWords, block-word, filler-zero}
@@ -44,16 +44,13 @@ current-natural v known = let s = sound known in natural (v .current) (s .low) (
 
 -- ---- a save that is not refused
 module _ (t : List ℤ) (v : Version) (allowed : saveHeaderRefusal t v ≡ 0) where
-  table-sound : badTable t ≡ false
+  size : Lengths t
   unfolding saveHeaderRefusal
-  table-sound = none _ tt allowed 1
-
-  record-sound : badRecord v ≡ false
-  unfolding saveHeaderRefusal
-  record-sound = none _ tt allowed 2
+  size = lengths t (none _ tt allowed 1)
 
   current : Natural (v .current)
-  current = current-natural v record-sound
+  unfolding saveHeaderRefusal
+  current = current-natural v (none _ tt allowed 2)
 
   -- the block is that of the header's words
   pub header-saved : saveHeaderBlock t v ≡ blockOf (headerWords t v)
@@ -67,7 +64,7 @@ module _ (t : List ℤ) (v : Version) (allowed : saveHeaderRefusal t v ≡ 0) wh
     where
       below : EachBelow wordBase (0 ∷ slots t ∷ natAbs (v .current) ∷ replicate 124 0)
       below zero = omega arith
-      below (suc zero) = omega (arith, lengths t table-sound .few)
+      below (suc zero) = omega (arith, size .few)
       below (suc (suc zero)) = omega (arith, current .small)
       below (suc (suc (suc i))) = zeros-below wordBase (omega arith) 124 i
 
@@ -79,9 +76,8 @@ module _ (t : List ℤ) (v : Version) (allowed : saveHeaderRefusal t v ≡ 0) wh
   pub header-right : headerWrong (blockOf (headerWords t v)) ≡ false
   unfolding headerWords
   header-right =
-      let few = lengths t table-sound in
       header-allowed _ (header-at 0 (omega arith))
-      (rw (header-at 1 (omega arith), le-leb 1 (slots t) (few .some), le-leb (slots t) 1024 (few .few)))
+      (rw (header-at 1 (omega arith), le-leb 1 (slots t) (size .some), le-leb (slots t) 1024 (size .few)))
       (rw (header-at 2 (omega arith)) (current .lawful))
       (filler-zero _ header-words (0 ∷ slots t ∷ natAbs (v .current) ∷ []) 124 refl)
 

@@ -7,7 +7,7 @@ use mir.Val.{SFits}
 use borrow.Author.Needs.{needs}
 use Rattle.laws.specs.Bits.{plain}
 use Rattle.laws.specs.First.{first, none}
-use Rattle.table.specs.SlotLaws.{Lengths, lengths}
+use Rattle.table.specs.SlotLaws.{lengths}
 use Rattle.blocks.specs.FrontLaws.{idleTests}
 use Rattle.blocks.specs.Headers.{headerWords}
 use Rattle.blocks.specs.HeaderLaws.{Natural, current-natural}
@@ -18,9 +18,6 @@ use Rattle.blocks.proofs.save_header.Tie as tie
 
 past7 : (c : tie.Else1) → first (idleTests (c .before .before .args .table .now) (c .before .before .args .version)) ≡ 0
 past7 c = sym (c .before .idle-refusal .ensures) ∙ c .if1 .left
-
-size : (c : tie.Else1) → Lengths (c .before .before .args .table .now)
-size c = lengths _ (none _ tt (past7 c) 1)
 
 current : (c : tie.Else1) → Natural (c .before .before .args .version .current)
 current c = current-natural _ (none _ tt (past7 c) 2)
@@ -35,7 +32,7 @@ refuses c =
     header-saved (sym (t .before .idle-refusal .ensures)) (zeros-handed _ (c .refused .ensures) (t .if1 .taken))
 
 few : tie.Need-cast-header-block
-few c = record { fits = omega (arith, size (c .before) .few) }
+few c = record { fits = omega (arith, lengths (c .before .before .before .args .table .now) (none _ tt (past7 (c .before)) 1) .few) }
 
 small : tie.Need-cast-header-block-2
 small c = rw (plain _ (fits c)) (current (c .before) .positive, record { fits = omega (arith, current (c .before) .small) })

@@ -70,5 +70,5 @@ pub save-slots-spec : {M : Type 1} → statement M
 save-slots-spec =
     tie.close
     (tie.spec Inv-loop μ-loop (λ c. search needs) (λ c. search needs) small (λ c κs. search needs) loop-holds
-    (λ c. search needs) (λ c κs. c .before .before .before .before .pre .0 .sound) (λ c κs. c .before .before .before .before .before .pre .1) (λ c κs. search needs) is6
+    (λ c. search needs) (λ c κs. search needs) (λ c κs. search needs) (λ c κs. search needs) is6
     (λ c κs. search needs) (λ c. search needs) (λ c. search needs) loop-again (λ c κs. search needs) saves)
