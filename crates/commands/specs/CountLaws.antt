@@ -7,12 +7,11 @@ use Prim.Native.Nat.{ℕ, suc}
 use native.Mathlib.Omega.{arith}
 use lib.Dec.{eqb, eqb·suc-suc}
 use lib.IntN.{ℤ}
-use lib.ListN.{length, drop}
+use lib.ListN.{length}
 use borrow.Author.Tests.{ne-eqb}
 use Rattle.laws.specs.Tests.{by-test}
 use Rattle.commands.specs.declared.Number.{Number}
 use Rattle.commands.specs.declared.Number.the-variants as number
-use Rattle.commands.specs.declared.First.the-variants as first
 use Rattle.commands.specs.declared.Two.{Two}
 use Rattle.commands.specs.declared.Two.the-variants as two
 use Rattle.commands.specs.declared.Three.{Three}
@@ -23,7 +22,7 @@ use Rattle.commands.specs.declared.Command.{Command}
 use Rattle.commands.specs.declared.Command.the-variants.{Bad}
 use Rattle.commands.specs.Numerals.{numberOf}
 use Rattle.commands.specs.Commands.{fields, field, withNumber, withTwo}
-use Rattle.commands.specs.FieldLaws.{firstOf, byNumber, headed, by-first, oneOf, one-number}
+use Rattle.commands.specs.FieldLaws.{firstOf, byNumber, headed, byFirst, by-first, oneOf}
 
 -- ---- so many numbers and no more
 abbrev pub andOne : ℤ → Number → Two
@@ -38,19 +37,19 @@ abbrev pub andThree : ℤ → Three → Four
 andThree a (three.Are b c d) = four.Are a b c d
 andThree a three.Bad = four.Bad
 
-abbrev thenOne : ℤ → List (List ℕ) → Two
+abbrev pub thenOne : ℤ → List (List ℕ) → Two
 thenOne z fs = andOne z (oneOf fs)
 
 unfoldable pub twoOf : List (List ℕ) → Two
 twoOf = headed two.Bad thenOne
 
-abbrev thenTwo : ℤ → List (List ℕ) → Three
+abbrev pub thenTwo : ℤ → List (List ℕ) → Three
 thenTwo z fs = andTwo z (twoOf fs)
 
 unfoldable pub threeOf : List (List ℕ) → Three
 threeOf = headed three.Bad thenTwo
 
-abbrev thenThree : ℤ → List (List ℕ) → Four
+abbrev pub thenThree : ℤ → List (List ℕ) → Four
 thenThree z fs = andThree z (threeOf fs)
 
 unfoldable pub fourOf : List (List ℕ) → Four
@@ -58,30 +57,17 @@ fourOf = headed four.Bad thenThree
 
 -- the code reads the first, and then the others of what follows its space
 module _ (line : List ℕ) where
-  pub not-two : firstOf line ≡ first.Bad → two.Bad ≡ twoOf (fields line)
+  pub two-first : twoOf (fields line) ≡ byFirst two.Bad thenOne line (firstOf line)
   unfolding twoOf
-  not-two e = by-first two.Bad thenOne (λ z. refl) line e
+  two-first = by-first two.Bad thenOne (λ z. refl) line
 
-  pub not-three : firstOf line ≡ first.Bad → three.Bad ≡ threeOf (fields line)
+  pub three-first : threeOf (fields line) ≡ byFirst three.Bad thenTwo line (firstOf line)
   unfolding threeOf twoOf
-  not-three e = by-first three.Bad thenTwo (λ z. refl) line e
+  three-first = by-first three.Bad thenTwo (λ z. refl) line
 
-  pub not-four : firstOf line ≡ first.Bad → four.Bad ≡ fourOf (fields line)
+  pub four-first : fourOf (fields line) ≡ byFirst four.Bad thenThree line (firstOf line)
   unfolding fourOf threeOf
-  not-four e = by-first four.Bad thenThree (λ z. refl) line e
-
-  module _ {z : ℤ} {after : ℕ} (e : firstOf line ≡ first.Number z after) where
-    pub two-read : {x : Number} → numberOf (drop after line) ≡ x → andOne z x ≡ twoOf (fields line)
-    unfolding twoOf
-    two-read h = rw (← h, one-number (drop after line)) (by-first two.Bad thenOne (λ z. refl) line e)
-
-    pub three-read : {x : Two} → twoOf (fields (drop after line)) ≡ x → andTwo z x ≡ threeOf (fields line)
-    unfolding threeOf twoOf
-    three-read h = rw (← h) (by-first three.Bad thenTwo (λ z. refl) line e)
-
-    pub four-read : {x : Three} → threeOf (fields (drop after line)) ≡ x → andThree z x ≡ fourOf (fields line)
-    unfolding fourOf threeOf
-    four-read h = rw (← h) (by-first four.Bad thenThree (λ z. refl) line e)
+  four-first = by-first four.Bad thenThree (λ z. refl) line
 
 -- the command that so many numbers make
 abbrev pub withTwoOf : Two → (ℤ → ℤ → Command) → Command

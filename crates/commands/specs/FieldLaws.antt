@@ -1,7 +1,7 @@
 -- The fields of a line, one after another: the first ends at the first space or at the end, and the others are the fields of
 -- what follows that space. By recursion on the line, with the end as any place that meets the description of the lowest.
 -- Assumes nothing.
-use mathlib.Core.Path.{_≡_, refl, sym, ap}
+use mathlib.Core.Path.{_≡_, refl, ap}
 use mathlib.Core.Bool.{Bool, cond}
 use mathlib.Core.List.{List, [], _∷_}
 use Prim.Native.Nat.{ℕ, zero, suc, _+_, _≤_, _<_, zero-le, suc-le-suc}
@@ -11,7 +11,7 @@ use native.Mathlib.Omega.{arith}
 use lib.Dec.{eqb, ltb}
 use lib.IntN.{ℤ}
 use lib.ListN.{length, getD, take, drop}
-use borrow.Author.Tests.{lt-ltb, le-ltb, ltb-true, ltb-false, eqb-true}
+use borrow.Author.Tests.{ltb-true, ltb-false, eqb-true}
 use Rattle.laws.specs.Tests.{by-test}
 use Rattle.laws.specs.Lowest.{lowest, Lowest, lowest-is}
 use Rattle.commands.specs.declared.Number.{Number}
@@ -76,15 +76,7 @@ followed number.Bad after = first.Bad
 unfoldable pub firstOf : List ℕ → First
 firstOf line = cond (ltb (firstEnd line) (length line)) (followed (numberOf (take (firstEnd line) line)) (firstEnd line + 1)) first.Bad
 
--- both ways: from the tests to what is read, and back
-pub last-field : (line : List ℕ) → length line ≤ firstEnd line → first.Bad ≡ firstOf line
-unfolding firstOf
-last-field line l = rw (le-ltb _ _ l) refl
-
-pub first-field : (line : List ℕ) {x : Number} → firstEnd line < length line → numberOf (take (firstEnd line) line) ≡ x → followed x (firstEnd line + 1) ≡ firstOf line
-unfolding firstOf
-first-field line l e = rw (lt-ltb _ _ l, e) refl
-
+-- and back, from what is read to the tests
 pub record FirstIs (line : List ℕ) (z : ℤ) (after : ℕ) : Type 0 where
   pub ends : firstEnd line < length line
   pub number : numberOf (take (firstEnd line) line) ≡ number.Is z
@@ -122,20 +114,19 @@ module _ {A : Type 0} (bad : A) (rest : ℤ → List (List ℕ) → A) where
   byFirst line (first.Number z after) = rest z (fields (drop after line))
   byFirst line first.Bad = bad
 
-  pub by-first : ((z : ℤ) → rest z [] ≡ bad) → (line : List ℕ) {f : First} → firstOf line ≡ f → byFirst line f ≡ headed (fields line)
+  pub by-first : ((z : ℤ) → rest z [] ≡ bad) → (line : List ℕ) → headed (fields line) ≡ byFirst line (firstOf line)
   unfolding firstOf
-  by-first last line e =
-      rw (← e)
-      (by-test (ltb (firstEnd line) (length line))
+  by-first last line =
+      by-test (ltb (firstEnd line) (length line))
       (λ y. rw (y, split line (firstEnd line) (firstEnd-is line) (ltb-true _ _ y)) (more (numberOf (take (firstEnd line) line))))
-      (λ n. rw (n, whole line (firstEnd line) (firstEnd-is line) (ltb-false _ _ n)) (none (numberOf line))))
+      (λ n. rw (n, whole line (firstEnd line) (firstEnd-is line) (ltb-false _ _ n)) (none (numberOf line)))
     where
-      more : (x : Number) → byFirst line (followed x (firstEnd line + 1)) ≡ byNumber x (fields (drop (suc (firstEnd line)) line))
+      more : (x : Number) → byNumber x (fields (drop (suc (firstEnd line)) line)) ≡ byFirst line (followed x (firstEnd line + 1))
       more (number.Is z) = rw add-one refl
       more number.Bad = refl
 
-      none : (x : Number) → bad ≡ byNumber x []
-      none (number.Is z) = sym (last z)
+      none : (x : Number) → byNumber x [] ≡ bad
+      none (number.Is z) = last z
       none number.Bad = refl
 
 -- the only field is a number: so is the line, since a space is no part of one

@@ -23,8 +23,8 @@ use Rattle.commands.specs.Numerals.{numberOf}
 use Rattle.commands.specs.ReadDigits.{many-digits}
 use Rattle.commands.specs.NumeralLaws.{no-number}
 use Rattle.commands.specs.Commands.{spaceByte, fields, asked}
-use Rattle.commands.specs.FieldLaws.{firstEnd, firstOf, first-is}
-use Rattle.commands.specs.CountLaws.{twoOf, threeOf, fourOf, not-two, not-three, not-four, two-read, three-read, four-read}
+use Rattle.commands.specs.FieldLaws.{firstEnd, firstOf, first-is, byFirst, one-number}
+use Rattle.commands.specs.CountLaws.{thenOne, thenTwo, thenThree, twoOf, threeOf, fourOf, two-first, three-first, four-first}
 use Rattle.commands.specs.CommandLaws.{numberedOf, numbered-line, other-line}
 
 -- a letter, and four numbers of 20 bytes with a space before each
@@ -58,24 +58,24 @@ shorter line {z} {after} e =
     (λ n. let w = long-number (take (firstEnd line) line) (rw (length-take-le (firstEnd line) line (omega arith)) (leb-false (firstEnd line) longestNumber n)) in
     let u : _≡_ {A = ℕ} 0 1 = cc in absurd (omega arith))
 
-by-field : {P : Type 0} (line : List ℕ) → (firstOf line ≡ first.Bad → P) → ((z : ℤ) (after : ℕ) → firstOf line ≡ first.Number z after → P) → P
-by-field {P} line bad number = go (firstOf line) refl
-  where
-    go : (f : First) → firstOf line ≡ f → P
-    go (first.Number z after) e = number z after e
-    go first.Bad e = bad e
+-- and where no others that long are numbers, all together are none
+module _ {A : Type 0} (bad : A) (rest : ℤ → List (List ℕ) → A) (most : ℕ) (long : (z : ℤ) (line : List ℕ) → most < length line → rest z (fields line) ≡ bad) where
+  long-first : (line : List ℕ) → longestNumber + 1 + most < length line → byFirst bad rest line (firstOf line) ≡ bad
+  long-first line l = go (firstOf line) refl
+    where
+      go : (f : First) → firstOf line ≡ f → byFirst bad rest line f ≡ bad
+      go (first.Number z after) e = long z (drop after line) (omega (arith, shorter line e))
+      go first.Bad e = refl
 
 long-two : (line : List ℕ) → longestTwo < length line → twoOf (fields line) ≡ two.Bad
 long-two line l =
-    by-field line (λ e. sym (not-two line e)) (λ z after e. sym (two-read line e (long-number (drop after line) (omega (arith, shorter line e)))))
+    two-first line ∙ long-first two.Bad thenOne longestNumber (λ z after m. rw (← one-number after, long-number after m) refl) line l
 
 long-three : (line : List ℕ) → longestThree < length line → threeOf (fields line) ≡ three.Bad
-long-three line l =
-    by-field line (λ e. sym (not-three line e)) (λ z after e. sym (three-read line e (long-two (drop after line) (omega (arith, shorter line e)))))
+long-three line l = three-first line ∙ long-first three.Bad thenTwo longestTwo (λ z after m. rw (long-two after m) refl) line l
 
 long-four : (line : List ℕ) → longestFour < length line → fourOf (fields line) ≡ four.Bad
-long-four line l =
-    by-field line (λ e. sym (not-four line e)) (λ z after e. sym (four-read line e (long-three (drop after line) (omega (arith, shorter line e)))))
+long-four line l = four-first line ∙ long-first four.Bad thenThree longestThree (λ z after m. rw (long-three after m) refl) line l
 
 same : {A : Type 0} (t : Bool) (x : A) → cond t x x ≡ x
 same true x = refl
