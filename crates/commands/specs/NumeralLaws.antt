@@ -1,6 +1,6 @@
 -- A field as a number, as the code reads it: by its first byte with a minus or without, by what its digits make, and by the
 -- limit of each. A field with any other byte is no number. Assumes nothing.
-use mathlib.Core.Path.{_≡_, refl, sym, ap, _∙_}
+use mathlib.Core.Path.{_≡_, refl, sym, ap}
 use mathlib.Core.Bool.{Bool, true, false, cond, _&&_}
 use mathlib.Core.List.{List, [], _∷_}
 use Prim.Native.Nat.{ℕ, zero, suc, _-_, _≤_, _<_}
@@ -23,24 +23,24 @@ abbrev pub limited : (ℕ → Bool) → (ℕ → ℤ) → Digits → Number
 limited within signed (Make n) = cond (within n) (number.Is (signed n)) number.Bad
 limited within signed Bad = number.Bad
 
-limited-is : (within : ℕ → Bool) (signed : ℕ → ℤ) (bs : List ℕ) {d : Digits} → digitsOf bs ≡ d
-    → limited within signed d ≡ cond (fewDigits bs && within (decimalFrom 0 bs)) (number.Is (signed (decimalFrom 0 bs))) number.Bad
+limited-is : (within : ℕ → Bool) (signed : ℕ → ℤ) (bs : List ℕ)
+    → cond (fewDigits bs && within (decimalFrom 0 bs)) (number.Is (signed (decimalFrom 0 bs))) number.Bad ≡ limited within signed (digitsOf bs)
 unfolding digitsOf
-limited-is within signed bs e = rw (← e) (by-test (fewDigits bs) (λ y. rw y refl) (λ n. rw n refl))
+limited-is within signed bs = by-test (fewDigits bs) (λ y. rw y refl) (λ n. rw n refl)
 
-pub unsigned-is : (bs : List ℕ) {d : Digits} → digitsOf bs ≡ d → limited (λ n. ltb n signedLimit) pos d ≡ unsignedOf bs
-unsigned-is bs e = limited-is (λ n. ltb n signedLimit) pos bs e
+pub unsigned-is : (bs : List ℕ) → unsignedOf bs ≡ limited (λ n. ltb n signedLimit) pos (digitsOf bs)
+unsigned-is = limited-is (λ n. ltb n signedLimit) pos
 
-pub minus-is : (bs : List ℕ) {d : Digits} → digitsOf bs ≡ d → limited (λ n. leb n signedLimit) (λ n. negℤ (pos n)) d ≡ minusOf bs
-minus-is bs e = limited-is (λ n. leb n signedLimit) (λ n. negℤ (pos n)) bs e
+pub minus-is : (bs : List ℕ) → minusOf bs ≡ limited (λ n. leb n signedLimit) (λ n. negℤ (pos n)) (digitsOf bs)
+minus-is = limited-is (λ n. leb n signedLimit) (λ n. negℤ (pos n))
 
 -- so 1 to 19 digits are the number that they make, where its limit allows it
 module _ (bs : List ℕ) {n : ℕ} (some : 1 ≤ length bs) (few : length bs ≤ mostDigits) (digits : allDigits bs ≡ true) (makes : decimalFrom 0 bs ≡ n) where
   pub unsigned-read : n < signedLimit → unsignedOf bs ≡ number.Is (pos n)
-  unsigned-read l = sym (unsigned-is bs (sym (digits-make bs some few digits makes))) ∙ rw (lt-ltb n signedLimit l) refl
+  unsigned-read l = rw (unsigned-is bs, ← digits-make bs some few digits makes, lt-ltb n signedLimit l) refl
 
   pub minus-read : n ≤ signedLimit → minusOf bs ≡ number.Is (negℤ (pos n))
-  minus-read l = sym (minus-is bs (sym (digits-make bs some few digits makes))) ∙ rw (le-leb n signedLimit l) refl
+  minus-read l = rw (minus-is bs, ← digits-make bs some few digits makes, le-leb n signedLimit l) refl
 
 -- -1 - m; and so -n without n, as -1 - (n - 1)
 pub from-minus-one : (m : ℕ) → negsuc 0 -ℤ pos m ≡ negsuc m
@@ -71,7 +71,7 @@ other-field (b ∷ bs) l h = rw h refl
 pub no-number : (b : ℕ) (bs : List ℕ) → (eqb b minusByte ≡ true → Bad ≡ digitsOf bs) → (eqb b minusByte ≡ false → Bad ≡ digitsOf (b ∷ bs)) → numberOf (b ∷ bs) ≡ number.Bad
 unfolding numberOf
 no-number b bs after without =
-    by-test (eqb b minusByte) (λ y. rw y (sym (minus-is bs (sym (after y))))) (λ n. rw n (sym (unsigned-is (b ∷ bs) (sym (without n)))))
+    by-test (eqb b minusByte) (λ y. rw (y, minus-is bs, ← after y) refl) (λ n. rw (n, unsigned-is (b ∷ bs), ← without n) refl)
 
 -- so it is where some byte is neither a minus nor a digit
 pub other-byte : (bs : List ℕ) (k : ℕ) → k < length bs → isDigit (getD bs k 0) ≡ false → eqb (getD bs k 0) minusByte ≡ false → numberOf bs ≡ number.Bad
