@@ -18,23 +18,15 @@ use Rattle.commands.specs.Numerals.{minusByte, zeroByte}
 use Rattle.replies.specs.Decimals.{mostWritten, decimal, numeral}
 
 -- ---- digits
--- below ten, one digit
-few : (most n : ℕ) → n < 10 → decimal (suc most) n ≡ (zeroByte + n) ∷ []
-few most n h = rw (lt-ltb n 10 h)
-
--- else those of its tenth, and one more
-more : (most n : ℕ) → 10 ≤ n → decimal (suc most) n ≡ decimal most (n / 10) ++ ((zeroByte + n % 10) ∷ [])
-more most n h = rw (le-ltb n 10 h)
-
 -- a count that holds them, or one more
 enough : (most n : ℕ) → n < 10 ^ suc most → decimal (suc (suc most)) n ≡ decimal (suc most) n
-enough zero n h = rw (few 1 n h, few 0 n h)
+enough zero n h = rw (lt-ltb n 10 h)
 enough (suc most) n h =
     by-test (ltb n 10)
     (λ y. rw y)
     (λ y. rw (y, enough most (n / 10) (div-lt-iff-lt-mul (omega arith) .1 (rw pow-suc at h))))
 
--- at most as many as were allowed, and one at least
+-- at most as many as were allowed
 decimal-most : (most n : ℕ) → length (decimal most n) ≤ most
 decimal-most zero n = omega arith
 decimal-most (suc most) n =
@@ -42,17 +34,19 @@ decimal-most (suc most) n =
     (λ y. rw y (omega arith))
     (λ y. rw (y, length-append) (omega (arith, decimal-most most (n / 10))))
 
-decimal-some : (most n : ℕ) → 1 ≤ length (decimal (suc most) n)
-decimal-some most n = by-test (ltb n 10) (λ y. rw y (omega arith)) (λ y. rw (y, length-append) (omega arith))
+pub decimal-few : (n : ℕ) → n < 10 ^ 19 → length (decimal mostWritten n) ≤ 19
+decimal-few n h = rw (enough 18 n h) (decimal-most 19 n)
 
 -- ---- numbers
+-- below ten, one digit
 pub one-digit : (n : ℕ) → n < 10 → numeral (pos n) ≡ (zeroByte + n) ∷ []
 unfolding numeral
-one-digit n h = few 19 n h
+one-digit n h = rw (lt-ltb n 10 h)
 
+-- else those of its tenth, and one more
 pub tenth-first : (n : ℕ) → 10 ≤ n → n < 18446744073709551616 → numeral (pos n) ≡ numeral (pos (n / 10)) ++ ((zeroByte + n % 10) ∷ [])
 unfolding numeral
-tenth-first n h l = rw (enough 18 (n / 10) (omega arith)) (more 19 n h)
+tenth-first n h l = rw (le-ltb n 10 h, enough 18 (n / 10) (omega arith))
 
 -- from 0 up, its magnitude, and below 0 a minus before it
 pub no-minus : (z : ℤ) → leZ (pos 0) z ≡ true → numeral z ≡ numeral (pos (natAbs z))
@@ -64,19 +58,12 @@ unfolding numeral
 minus (pos n) h = clash (le-leb 0 n (omega arith)) h
 minus (negsuc n) h = refl
 
--- 1 to 20 bytes: 20 digits, or a minus and 19
-pub record Bytes (z : ℤ) : Type 0 where
-  pub some : 1 ≤ length (numeral z)
-  pub most : length (numeral z) ≤ mostWritten
-
-pub natural-bytes : (n : ℕ) → Bytes (pos n)
+-- at most 20 bytes: 20 digits, or a minus and 19
+pub natural-bytes : (n : ℕ) → length (numeral (pos n)) ≤ mostWritten
 unfolding numeral
-natural-bytes n = record { some = decimal-some 19 n; most = decimal-most 20 n }
+natural-bytes n = decimal-most 20 n
 
-pub signed-bytes : (z : ℤ) → Below z → Bytes z
+pub signed-bytes : (z : ℤ) → Below z → length (numeral z) ≤ mostWritten
 unfolding numeral
 signed-bytes (pos n) h = natural-bytes n
-signed-bytes (negsuc n) h = record {
-  some = omega arith;
-  most = rw (enough 18 (suc n) (omega arith)) (omega (arith, decimal-most 19 (suc n)));
-}
+signed-bytes (negsuc n) h = omega (arith, decimal-few (suc n) (omega arith))

@@ -1,5 +1,5 @@
 -- A number that is written is read back: for every z of 64 signed bits the numeral of z is the number z. By the highest digits
--- first: a number's digits are those of its tenth part and the last one, and n below 10^k has at most k of them. Assumes nothing.
+-- first: a number's digits are those of its tenth part and the last one, and 19 hold every such number. Assumes nothing.
 use mathlib.Core.Path.{_≡_, refl, sym, _∙_}
 use mathlib.Core.Bool.{true, false, _&&_, and-true, and-assoc}
 use mathlib.Core.List.{List, [], _∷_, _++_}
@@ -18,6 +18,7 @@ use Rattle.commands.specs.Numerals.{minusByte, zeroByte, nineByte, isDigit, all
 use Rattle.commands.specs.ReadDigits.{digit-byte}
 use Rattle.commands.specs.NumeralLaws.{unsigned-read, minus-read, minus-field, other-field}
 use Rattle.replies.specs.Decimals.{mostWritten, decimal, numeral}
+use Rattle.replies.specs.DecimalLaws.{decimal-few}
 
 -- one or more digits, and the number that they make
 record Makes (bs : List ℕ) (n : ℕ) : Type 0 where
@@ -47,22 +48,12 @@ digit-more {bs} d l m = record {
   number = rw (last-number 0 bs (zeroByte + d), m .number) (omega arith);
 }
 
--- ---- the digits of a number make it, and are few
-tenth : (k n : ℕ) → n < 10 ^ suc k → n / 10 < 10 ^ k
-tenth k n l = div-lt-iff-lt-mul {k = 10} (omega arith) .1 (rw pow-suc at l)
-
+-- ---- the digits of a number make it
 decimal-makes : (most n : ℕ) → n < 10 ^ suc most → Makes (decimal (suc most) n) n
 decimal-makes zero n l = rw (lt-ltb n 10 l) (one-digit n l)
 decimal-makes (suc most) n l =
     by-test (ltb n 10) (λ y. rw y (one-digit n (ltb-true n 10 y)))
-    (λ m. rw m (rw (div-add-mod' n 10) at (digit-more (n % 10) (mod-lt n (omega arith)) (decimal-makes most (n / 10) (tenth (suc most) n l)))))
-
-decimal-few : (most k n : ℕ) → n < 10 ^ suc k → length (decimal most n) ≤ suc k
-decimal-few zero k n l = omega arith
-decimal-few (suc most) zero n l = rw (lt-ltb n 10 l) (omega arith)
-decimal-few (suc most) (suc k) n l =
-    by-test (ltb n 10) (λ y. rw y (omega arith))
-    (λ m. rw (m, length-append) (omega (arith, decimal-few most k (n / 10) (tenth (suc k) n l))))
+    (λ m. rw m (rw (div-add-mod' n 10) at (digit-more (n % 10) (mod-lt n (omega arith)) (decimal-makes most (n / 10) (div-lt-iff-lt-mul (omega arith) .1 (rw pow-suc at l))))))
 
 -- ---- so the numeral is read back
 no-minus : (bs : List ℕ) → 1 ≤ length bs → allDigits bs ≡ true → eqb (getD bs 0 0) minusByte ≡ false
@@ -76,9 +67,9 @@ read-back (pos n) f =
     let bs = decimal mostWritten n in
     let m = decimal-makes 19 n (omega (arith, f .sfits)) in
     sym (other-field bs (m .some) (no-minus bs (m .some) (m .digits)))
-    ∙ unsigned-read bs (m .some) (decimal-few mostWritten 18 n (omega (arith, f .sfits))) (m .digits) (m .number) (f .sfits)
+    ∙ unsigned-read bs (m .some) (decimal-few n (omega (arith, f .sfits))) (m .digits) (m .number) (f .sfits)
 read-back (negsuc n) f =
     let bs = decimal mostWritten (suc n) in
     let m = decimal-makes 19 (suc n) (omega (arith, f .sfits)) in
     sym (minus-field (minusByte ∷ bs) refl)
-    ∙ minus-read bs (m .some) (decimal-few mostWritten 18 (suc n) (omega (arith, f .sfits))) (m .digits) (m .number) (f .sfits)
+    ∙ minus-read bs (m .some) (decimal-few (suc n) (omega (arith, f .sfits))) (m .digits) (m .number) (f .sfits)

@@ -2,7 +2,7 @@
 -- two runs in turn are one, since a run stored is its bytes stored in turn. A line so put, where there is room for the longest,
 -- is written. Assumes nothing.
 use mathlib.Core.Path.{_≡_, refl, sym, _∙_}
-use mathlib.Core.Bool.{true, false}
+use mathlib.Core.Bool.{Bool, true, false, not}
 use mathlib.Core.List.{List, [], _∷_, _++_}
 use Prim.Native.Nat.{ℕ, suc, _+_, _-_, _≤_}
 use native.Mathlib.Nat.{add-zero, add-suc, suc-add, add-assoc}
@@ -11,7 +11,7 @@ use lib.Dec.{leb}
 use lib.ListN.{length, length-append}
 use lib.Seq.{sets, length-sets}
 use borrow.Author.Tests.{leb-true, leb-false, le-leb, lt-leb}
-use Rattle.laws.specs.Tests.{by-test}
+use Rattle.laws.specs.Tests.{by-test, not-yes, not-no}
 use Rattle.replies.specs.Written.{longestLine, hasRoom, bufferAfter, placeAfter, Written}
 
 -- there is room for some bytes
@@ -59,18 +59,16 @@ left-leb length place h =
     (λ y. y ∙ sym (le-leb (place + longestLine) length (omega (arith, leb-true place (length - longestLine) y))))
     (λ y. y ∙ sym (lt-leb (place + longestLine) length (omega (arith, leb-false place (length - longestLine) y))))
 
--- without room for the longest, nothing is written
-pub unwritten : (buffer : List ℕ) (place : ℕ) (line : List ℕ) → hasRoom buffer place ≡ false → Written buffer place line place buffer
+-- by the code's test: without room for the longest, nothing is written
+pub unwritten : {buffer line : List ℕ} {place : ℕ} {t : Bool} → t ≡ hasRoom buffer place → not t ≡ true → Written buffer place line place buffer
 unfolding bufferAfter placeAfter
-unwritten buffer place line h = record { answer = rw h; bytes = rw h; within = λ w. w }
+unwritten e n = let h = sym e ∙ not-yes n in record { answer = rw h; bytes = rw h; within = λ w. w }
 
 -- with it there is room for any, and what was put is written
-pub room-for : {buffer : List ℕ} {place : ℕ} (line : List ℕ) → length line ≤ longestLine → hasRoom buffer place ≡ true → Room buffer place line
-room-for {buffer} {place} line l h = record { fits = omega (arith, leb-true (place + longestLine) (length buffer) h) }
+module _ {buffer line : List ℕ} {place : ℕ} {t : Bool} (e : t ≡ hasRoom buffer place) (n : not t ≡ false) (f : length line ≤ longestLine) where
+  pub room-for : Room buffer place line
+  room-for = record { fits = omega (arith, leb-true (place + longestLine) (length buffer) (sym e ∙ not-no n)) }
 
-pub written : {buffer buffer′ : List ℕ} (line : List ℕ) {place r : ℕ} → length line ≤ longestLine
-    → hasRoom buffer place ≡ true → Put buffer place line r buffer′ → Written buffer place line r buffer′
-unfolding bufferAfter placeAfter
-written {buffer} line {place} l h f =
-    let room = room-for {buffer = buffer} {place = place} line l h .fits in
-    record { answer = rw h (f .answer); bytes = rw h (f .stored); within = λ w. rw (f .answer) room }
+  pub written : {buffer′ : List ℕ} {r : ℕ} → Put buffer place line r buffer′ → Written buffer place line r buffer′
+  unfolding bufferAfter placeAfter
+  written p = let h = sym e ∙ not-no n in record { answer = rw h (p .answer); bytes = rw h (p .stored); within = λ w. rw (p .answer) (room-for .fits) }
