@@ -5,9 +5,6 @@ use Rattle.replies.specs.WrittenLaws.{then, room-first, room-then}
 use Rattle.replies.proofs.put_natural_line.Statement.{statement}
 use Rattle.replies.proofs.put_natural_line.Tie as tie
 
-put-word-requires : tie.Need-put-word-requires
-put-word-requires c κs = room-first _ (room-first _ (rw one-number at (c .before .before .before .pre)))
-
 put-natural-requires : tie.Need-put-natural-requires
 put-natural-requires c κs =
     let word = c .before .before .before in
@@ -19,14 +16,7 @@ put-byte-requires c κs =
     let word = number .before .before .before .before in
     room-then (rw one-number at (word .before .before .before .before .pre)) (then (word .put-word .ensures) (number .put-natural .ensures))
 
-returns : tie.Need-returns
-returns c =
-    let last = c .before .before in
-    let number = last .before .before .before .before in
-    let word = number .before .before .before .before in
-    rw one-number (then (then (word .put-word .ensures) (number .put-natural .ensures)) (last .put-byte .ensures))
-
 pub put-natural-line-spec : {M : Type 1} → statement M
 put-natural-line-spec =
     tie.close
-    (tie.spec put-word-requires put-natural-requires put-byte-requires (λ c. search needs) returns)
+    (tie.spec (λ c κs. search room-first) put-natural-requires put-byte-requires (λ c. search needs) (λ c. search (one-number, then)))

@@ -9,9 +9,6 @@ use Rattle.replies.specs.WrittenLaws.{Put, then, room-first, room-then}
 use Rattle.replies.proofs.put_numbers_line.Statement.{statement}
 use Rattle.replies.proofs.put_numbers_line.Tie as tie
 
-put-word-requires : tie.Need-put-word-requires
-put-word-requires c κs = room-first _ (room-first _ (room-first _ (rw two-numbers at (c .before .before .before .pre))))
-
 put-number-requires : tie.Need-put-number-requires
 put-number-requires c κs =
     let word = c .before .before .before in
@@ -50,4 +47,4 @@ returns c =
 pub put-numbers-line-spec : {M : Type 1} → statement M
 put-numbers-line-spec =
     tie.close
-    (tie.spec put-word-requires put-number-requires put-number-requires-2 put-byte-requires (λ c. search needs) returns)
+    (tie.spec (λ c κs. search room-first) put-number-requires put-number-requires-2 put-byte-requires (λ c. search needs) returns)
