@@ -1,5 +1,5 @@
 -- A line is answered where what it asks is known, is done, and is replied to. Assumes nothing.
-use mathlib.Core.Path.{_≡_}
+use mathlib.Core.Path.{_≡_, sym, _∙_}
 use mathlib.Core.List.{List}
 use Prim.Native.Nat.{ℕ}
 use lib.IntN.{ℤ}
@@ -9,7 +9,7 @@ use Rattle.commands.specs.Commands.{asked}
 use Rattle.answers.specs.declared.Turn.{Turn}
 use Rattle.answers.specs.Answers.{reply, wordsAfter, recordAfter, Replied, Answered}
 
-pub answered : {t t′ : List ℤ} {v : Version} {line buffer buffer′ : List ℕ} {place : ℕ} {r : Turn} {command : Command} → asked line ≡ command
-    → t′ ≡ wordsAfter command t v → Replied (recordAfter command v) (reply command t v) buffer place r buffer′
-    → Answered t v line buffer place r t′ buffer′
-answered a w p = record { words = rw a w; replied = rw a p }
+pub answered : {t t′ : List ℤ} {v v′ : Version} {line reply′ buffer buffer′ : List ℕ} {place : ℕ} {r : Turn} {read command : Command}
+    → read ≡ asked line → read ≡ command → t′ ≡ wordsAfter command t v → v′ ≡ recordAfter command v → reply′ ≡ reply command t v
+    → Replied v′ reply′ buffer place r buffer′ → Answered t v line buffer place r t′ buffer′
+answered a c w e l p = let b = sym a ∙ c in record { words = rw b w; replied = rw (b, ← e, ← l) p }
