@@ -1,6 +1,5 @@
 -- `probe::probe_delete` meets its contract: it hands on to the call, and to the numbers of its answer; the number of the slot is below 1,024. Assumes nothing.
 use borrow.Author.Needs.{needs}
-use Rattle.laws.specs.Bits.{plain}
 use Rattle.changes.specs.Places.{delete-numbers}
 use Rattle.probe.specs.Probed.{outAfter, tableAfter}
 use Rattle.probe.proofs.probe_delete.Statement.{statement}
@@ -14,10 +13,7 @@ unfolding outAfter tableAfter
 returns c =
     let r = c .before .before in
     let v = r .before .version-of .ensures in
-    let f = r .before .before .before .before .fits in (
-      rw (c .put-placed .ensures, r .delete .ensures .answer, v, plain _ (f .one), plain _ (f .two)),
-      rw (r .delete .ensures .words, v, plain _ (f .one), plain _ (f .two)),
-    )
+    (search (needs, c .put-placed .ensures, r .delete .ensures .answer, v), search (needs, r .delete .ensures .words, v))
 
 pub probe-delete-spec : {M : Type 1} → statement M
 probe-delete-spec = tie.close (tie.spec (λ c κs. search needs) (λ c κs. search needs) numbers (λ c. search needs) returns)

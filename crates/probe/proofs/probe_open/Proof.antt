@@ -4,9 +4,6 @@ use Rattle.probe.specs.Probed.{outAfter}
 use Rattle.probe.proofs.probe_open.Statement.{statement}
 use Rattle.probe.proofs.probe_open.Tie as tie
 
-returns : tie.Need-returns
-unfolding outAfter
-returns c = let o = c .before in rw (c .put-numbered .ensures, o .open .ensures .answer, o .before .version-of .ensures)
-
 pub probe-open-spec : {M : Type 1} → statement M
-probe-open-spec = tie.close (tie.spec (λ c κs. search needs) (λ c κs. search needs) (λ c κs. search needs) returns)
+unfolding outAfter
+probe-open-spec = tie.close (tie.spec (λ c κs. search needs) (λ c κs. search needs) (λ c κs. search needs) (λ c. rw (c .put-numbered .ensures, c .before .open .ensures .answer, c .before .before .version-of .ensures)))

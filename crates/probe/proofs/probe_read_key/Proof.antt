@@ -1,16 +1,12 @@
 -- `probe::probe_read_key` meets its contract: it hands on to the call, and to the numbers of its answer. Assumes nothing.
 use borrow.Author.Needs.{needs}
-use Rattle.laws.specs.Bits.{plain}
 use Rattle.probe.specs.Probed.{outAfter}
 use Rattle.probe.proofs.probe_read_key.Statement.{statement}
 use Rattle.probe.proofs.probe_read_key.Tie as tie
 
-returns : tie.Need-returns
-unfolding outAfter
-returns c =
-    let r = c .before in
-    let f = r .before .before .before .fits in
-    rw (c .put-seen .ensures, r .read-key .ensures .answer, r .before .version-of .ensures, plain _ (f .session), plain _ (f .one), plain _ (f .two))
-
 pub probe-read-key-spec : {M : Type 1} → statement M
-probe-read-key-spec = tie.close (tie.spec (λ c κs. search needs) (λ c κs. search needs) (λ c κs. search needs) returns)
+unfolding outAfter
+probe-read-key-spec =
+    tie.close
+    (tie.spec (λ c κs. search needs) (λ c κs. search needs) (λ c κs. search needs)
+    (λ c. search (needs, c .put-seen .ensures, c .before .read-key .ensures .answer, c .before .before .version-of .ensures)))

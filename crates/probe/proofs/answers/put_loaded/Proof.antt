@@ -3,11 +3,5 @@ use borrow.Author.Needs.{needs}
 use Rattle.probe.proofs.answers.put_loaded.Statement.{statement}
 use Rattle.probe.proofs.answers.put_loaded.Tie as tie
 
-done : tie.Need-returns
-done c = rw (c .before .before .enum-told .given .1) (c .put-refusal .ensures)
-
-refused : tie.Need-returns-2
-refused c = rw (c .before .before .before .answer .given .1) (c .put-refusal2 .ensures)
-
 pub put-loaded-spec : {M : Type 1} → statement M
-put-loaded-spec = tie.close (tie.spec (λ c. search needs) (λ c κs. search needs) (λ c. search needs) (λ c κs. search needs) done refused)
+put-loaded-spec = tie.close (tie.spec (λ c. search needs) (λ c κs. search needs) (λ c. search needs) (λ c κs. search needs) (λ c. search (c .before .before .enum-told .given .1, c .put-refusal .ensures)) (λ c. search (c .before .before .before .answer .given .1, c .put-refusal2 .ensures)))
