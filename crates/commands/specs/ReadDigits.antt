@@ -59,9 +59,6 @@ pub record Passed (bs : List ℕ) (i n : ℕ) : Type 0 where
   pub number : decimalFrom n (drop i bs) ≡ decimalFrom 0 bs
   pub small : n < 10 ^ i
 
-pub none-passed : (bs : List ℕ) → Passed bs 0 0
-none-passed bs = record { digits = refl; number = refl; small = omega arith }
-
 module _ {bs : List ℕ} {i n : ℕ} (p : Passed bs i n) where
   -- one more
   pub one-passed : i < length bs → isDigit (getD bs i 0) ≡ true → Passed bs (i + 1) (n * 10 + (getD bs i 0 - zeroByte))

@@ -5,7 +5,7 @@ use native.Mathlib.Omega.{arith}
 use lib.ListN.{length}
 use borrow.Author.Needs.{needs}
 use Rattle.laws.specs.Tests.{not-yes, not-no}
-use Rattle.commands.specs.ReadDigits.{Passed, none-passed, one-passed, not-passed, all-passed, fits, no-digits, many-digits, other-digits, digits-make}
+use Rattle.commands.specs.ReadDigits.{Passed, one-passed, not-passed, all-passed, fits, no-digits, many-digits, other-digits, digits-make}
 use Rattle.commands.proofs.read_digits.Statement.{statement}
 use Rattle.commands.proofs.read_digits.Tie as tie
 
@@ -51,4 +51,4 @@ makes c =
 pub read-digits-spec : {M : Type 1} → statement M
 read-digits-spec =
     tie.close
-    (tie.spec Inv-loop μ-loop none many (λ c. (omega arith, none-passed _)) (λ c. omega arith) (λ c κs. search needs) other mul-number digit add-number (λ c. omega arith) (λ c. omega arith) loop-again makes)
+    (tie.spec Inv-loop μ-loop none many (λ c. search arith) (λ c. omega arith) (λ c κs. search needs) other mul-number digit add-number (λ c. omega arith) (λ c. omega arith) loop-again makes)
