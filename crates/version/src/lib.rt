@@ -133,10 +133,12 @@ pub fn begun(version: Version) -> Turned
 pub fn committed(version: Version) -> Turned
     ensures { λ r. ⌜ Committed version r ⌝ }
 {
-    if bad_record(version) {
+    let bad = bad_record(version);
+    if bad {
         return kept(version, 2);
     }
-    if !version.active {
+    let idle = !version.active;
+    if idle {
         return kept(version, 8);
     }
     let next = run_number(version);
