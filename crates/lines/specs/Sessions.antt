@@ -7,6 +7,7 @@ use lib.Dec.{eqb}
 use lib.IntN.{ℤ}
 use lib.ListN.{length}
 use Rattle.version.specs.declared.Version.{Version}
+use Rattle.version.specs.Record.{freshRecord}
 use Rattle.commands.specs.Commands.{asked}
 use Rattle.replies.specs.Replies.{newlineByte}
 use Rattle.answers.specs.Answers.{reply, wordsAfter, recordAfter}
@@ -17,6 +18,10 @@ pub record Session : Type 0 where
   pub version : Version
   pub line : List ℕ
   pub output : List ℕ
+
+-- it starts fresh: on a table as it is, with the fresh record, no line and nothing answered
+abbrev pub freshSession : List ℤ → Session
+freshSession t = record { words = t; version = freshRecord; line = []; output = [] }
 
 -- a line that ends is answered, and the next begins
 unfoldable pub ended : Session → Session

@@ -16,7 +16,7 @@ use Rattle.commands.specs.LongLaws as long
 use Rattle.replies.specs.Written.{longestLine}
 use Rattle.replies.specs.OutputLaws.{up-to}
 use Rattle.answers.specs.declared.Turn.{Turn}
-use Rattle.answers.specs.Answers.{reply, wordsAfter, recordAfter, Answered}
+use Rattle.answers.specs.Answers.{Answered}
 use Rattle.lines.specs.declared.Progress.{Progress}
 use Rattle.lines.specs.Sessions.{Session, ended, afterByte, afterBytes, finished}
 use Rattle.lines.specs.SessionLaws.{no-bytes, and-last, no-last, a-last}

@@ -3,9 +3,10 @@
 ghost use mathlib.Core.Path.{_≡_};
 ghost use mathlib.Core.List.{List, [], _∷_, _++_};
 ghost use Prim.Native.Nat.{ℕ, _+_, _≤_, _<_};
+ghost use lib.IntN.{ℤ};
 ghost use lib.ListN.{length, take};
 ghost use Rattle.replies.specs.Written.{longestLine};
-ghost use Rattle.lines.specs.Sessions.{Session, ended, finished, afterByte, afterBytes};
+ghost use Rattle.lines.specs.Sessions.{Session, freshSession, ended, finished, afterByte, afterBytes};
 ghost use Rattle.lines.specs.Standing.{lineBytes, Sound, Stands};
 use reader::Version;
 
@@ -17,6 +18,20 @@ pub struct Progress {
     pub version: Version,
     pub kept: usize,
     pub place: usize,
+}
+
+impl Progress {
+    // Before the first byte.
+    pub fn fresh() -> Self
+        ensures { λ r. ⌜ (r .kept ≡ 0) × (r .place ≡ 0) ⌝ }
+        ensures { λ r. ⌜ ((t : List ℤ) (l b : List ℕ) → Stands (freshSession t) t l b r) ⌝ }
+    {
+        Progress {
+            version: Version::fresh(),
+            kept: 0,
+            place: 0,
+        }
+    }
 }
 
 // What a run of bytes leaves: what then stands, and how many of the bytes were taken.
@@ -50,9 +65,10 @@ fn end_line(table: &mut [i64], line: &[u8], buffer: &mut [u8], progress: Progres
     let kept = progress.kept;
     let turn = answers::answer(table, before, &line[..kept], buffer, progress.place);
     let version = turn.version;
+    let none: usize = 0;
     Progress {
         version: version,
-        kept: 0,
+        kept: none,
         place: turn.place,
     }
 }

@@ -10,7 +10,6 @@ ghost use Rattle.stepper.specs.Ready.{Ready};
 use libc::STDIN_FILENO;
 use libc::STDOUT_FILENO;
 use lines::Progress;
-use reader::Version;
 
 // 8 slots of 8 words.
 const TABLE_WORDS: usize = 64;
@@ -145,12 +144,7 @@ fn answer_all(table: &mut [i64], line: &mut [u8], buffer: &mut [u8])
     requires { ⌜ length (now line) ≡ lineBytes ⌝ }
     requires { ⌜ longestLine ≤ length (now buffer) ⌝ }
 {
-    let start = Progress {
-        version: Version::fresh(),
-        kept: 0,
-        place: 0,
-    };
-    let all = take_all(table, line, buffer, start);
+    let all = take_all(table, line, buffer, Progress::fresh());
     take_last(table, line, buffer, all);
 }
 

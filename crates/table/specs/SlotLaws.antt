@@ -1,7 +1,7 @@
 -- The laws of slots: the lengths of a table, the slot at a place past the end, a slot that was put, and that two tables which
 -- agree slot by slot are one. Each goes by the eight words. Assumes nothing.
 use mathlib.Core.Path.{_≡_, refl, sym, ap, _∙_}
-use mathlib.Core.Bool.{Bool, false}
+use mathlib.Core.Bool.{false}
 use mathlib.Core.List.{List}
 use Prim.Native.Nat.{ℕ, zero, suc, _+_, _*_, _%_, _≤_, _<_}
 use native.Mathlib.Nat.{add-zero}

@@ -1,5 +1,4 @@
 -- `searches::long_deleted` meets its contract. Assumes nothing.
-use lib.IntN.{pos}
 use mir.Syntax.{w64}
 use mir.Val.{SFits}
 use borrow.Author.Needs.{needs}

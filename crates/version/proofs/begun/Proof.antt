@@ -7,7 +7,6 @@ use mir.Syntax.{w64}
 use mir.Val.{SFits}
 use borrow.Author.Needs.{needs}
 use Rattle.laws.specs.First.{hit, skip, done}
-use Rattle.laws.specs.Order.{eqZ}
 use Rattle.laws.specs.Bits.{plain, is, isnt}
 use Rattle.version.specs.declared.Numbered.the-variants.{Number}
 use Rattle.version.specs.Record.{largestVersion, badRecord}
