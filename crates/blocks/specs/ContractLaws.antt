@@ -1,7 +1,7 @@
 -- How each contract is shown: by a refusal that is given, or by what is done where nothing is refused. Assumes nothing.
 use mathlib.Core.Path.{_≡_, refl, _∙_}
 use mathlib.Core.List.{List}
-use Prim.Native.Nat.{ℕ}
+use Prim.Native.Nat.{ℕ, suc}
 use lib.IntN.{ℤ}
 use Rattle.laws.specs.First.{unless, unless-refused, unless-done}
 use Rattle.version.specs.declared.Version.{Version}
@@ -10,6 +10,7 @@ use Rattle.words.specs.Longs.{blockSlots}
 use Rattle.loads.specs.Slots.{loadedTo}
 use Rattle.blocks.specs.declared.Saved.{Saved}
 use Rattle.blocks.specs.declared.Header.{Header}
+use Rattle.blocks.specs.declared.Loaded.{Loaded}
 use Rattle.blocks.specs.declared.Loaded.the-variants.{Done}
 use Rattle.blocks.specs.declared.Header.the-variants as header
 use Rattle.blocks.specs.declared.Loaded.the-variants as loaded
@@ -63,3 +64,17 @@ module _ {t : List ℤ} {v : Version} {k : ℕ} {block : List ℕ} where
   pub block-loaded : {u : List ℤ} → loadBlockRefusal t v k block ≡ 0 → u ≡ loadedTo t k block blockSlots → BlockLoaded t v k block Done u
   unfolding loadBlockAnswer loadBlockWords
   block-loaded e h = search unless-done
+
+-- ---- what comes of a load of a block by its refusal: one that is refused leaves the words
+pub record Refuses (n : ℕ) (t : List ℤ) (r : Loaded) (t′ : List ℤ) : Type 0 where
+  pub answer : r ≡ loaded.Refused n
+  pub words : t′ ≡ t
+
+module _ (t : List ℤ) (v : Version) (k : ℕ) (block : List ℕ) where
+  pub load-refuses : (n : ℕ) → loadBlockRefusal t v k block ≡ suc n → Refuses (suc n) t (loadBlockAnswer t v k block) (loadBlockWords t v k block)
+  unfolding loadBlockAnswer loadBlockWords
+  load-refuses n h = record { answer = rw h; words = rw h }
+
+  pub load-accepts : loadBlockRefusal t v k block ≡ 0 → loadBlockAnswer t v k block ≡ Done
+  unfolding loadBlockAnswer
+  load-accepts h = rw h

@@ -1,3 +1,4 @@
+pub mod Numbered
 pub mod Seen
 pub mod Rolled
 pub mod Placed

@@ -1,5 +1,5 @@
--- What an accepted change of a whole table leaves, one theorem a call: its slot is written to the effect that the call says, and
--- no other slot has the key. Each goes by the cell that the slot's run and operation choose. Assumes nothing.
+-- What an accepted change of a whole table in which no key has two slots leaves, one theorem a call: its slot is written to the
+-- effect that the call says, and no other slot has the key. Each goes by the cell that the slot's run and operation choose. Assumes nothing.
 use mathlib.Core.Path.{_≡_, refl, sym, _∙_}
 use mathlib.Core.Bool.{true, false}
 use mathlib.Core.List.{List}
@@ -33,7 +33,7 @@ use Rattle.changes.specs.declared.Placed.{Placed}
 use Rattle.cells.specs.Tables.{inserted, updated, deleted}
 use Rattle.cells.specs.TableLaws.{inserted-new, inserted-older, inserted-same, updated-older, updated-same, deleted-older, deleted-insert, deleted-update}
 use Rattle.changes.specs.Effects.{Effect, run-within, save-effect, correct-effect, remove-effect, erase-effect, mark-effect, restore-effect, insert-effect}
-use Rattle.changes.specs.Whole.{Whole, Wrote, only}
+use Rattle.changes.specs.Whole.{Whole, Distinct, Wrote, only}
 use Rattle.changes.specs.Insert.{insertSlot, insertRefusal, insertAnswer, insertWords}
 use Rattle.changes.specs.Update.{updateRefusal, updateAnswer, updateWords}
 use Rattle.changes.specs.Delete.{deleteRefusal, deleteAnswer, deleteWords}
@@ -90,45 +90,45 @@ module _ (v : Version) (known : badRecord v ≡ false) (active : v .active ≡ t
       (insert-effect v known active x one two a b g (free-unseen x f .0) (free-unseen x f .1))
 
 -- ---- update and delete write at a live key's slot, which is used and has the key: what is left to show is the effect
-live-wrote : (t : List ℤ) (v : Version) (one two : ℤ) (after : Seen) (y : Slot) {t′ : List ℤ} → Whole t v → keyLive t one two ≡ true
+live-wrote : (t : List ℤ) (v : Version) (one two : ℤ) (after : Seen) (y : Slot) {t′ : List ℤ} → Whole t v → Distinct t → keyLive t one two ≡ true
     → t′ ≡ putSlot t (keySlot t one two) y → (Used (keyed t one two) v → Keyed (keyed t one two) one two → Effect v (keyed t one two) y one two after)
     → Wrote t v one two after (keySlot t one two) t′
-live-wrote t v one two after y whole l e effect =
+live-wrote t v one two after y whole distinct l e effect =
     let place = live-placed t one two (whole .shape) l in
     let has = keySlot-is t one two .passes place in
     record {
       slot = y;
       place = place;
       words = e;
-      alone = only t (whole .distinct) (keySlot t one two) one two has;
+      alone = only t distinct (keySlot t one two) one two has;
       effect = effect (live-used _ v l (whole .formed _)) (has-key _ one two has);
     }
 
-pub update-wrote : (t : List ℤ) (v : Version) (one two a b : ℤ) → Whole t v → updateRefusal t v one two a b ≡ 0
+pub update-wrote : (t : List ℤ) (v : Version) (one two a b : ℤ) → Whole t v → Distinct t → updateRefusal t v one two a b ≡ 0
     → Wrote t v one two (Row one two a b) (keySlot t one two) (updateWords t v one two a b)
 unfolding updateRefusal updateWords
-update-wrote t v one two a b whole h =
+update-wrote t v one two a b whole distinct h =
     let no = none _ tt h in
     let l = not-no (no 11) in
-    live-wrote t v one two _ _ whole l (rw h refl) (λ u k. update-effect v (no 2) (not-no (no 8)) _ one two a b u k l (given a b (no 13)))
+    live-wrote t v one two _ _ whole distinct l (rw h refl) (λ u k. update-effect v (no 2) (not-no (no 8)) _ one two a b u k l (given a b (no 13)))
 
-pub delete-wrote : (t : List ℤ) (v : Version) (one two : ℤ) → Whole t v → deleteRefusal t v one two ≡ 0
+pub delete-wrote : (t : List ℤ) (v : Version) (one two : ℤ) → Whole t v → Distinct t → deleteRefusal t v one two ≡ 0
     → Wrote t v one two NoRow (keySlot t one two) (deleteWords t v one two)
 unfolding deleteRefusal deleteWords
-delete-wrote t v one two whole h =
+delete-wrote t v one two whole distinct h =
     let no = none _ tt h in
     let l = not-no (no 11) in
-    live-wrote t v one two _ _ whole l (rw h refl) (λ u k. delete-effect v (no 2) (not-no (no 8)) _ one two u k l)
+    live-wrote t v one two _ _ whole distinct l (rw h refl) (λ u k. delete-effect v (no 2) (not-no (no 8)) _ one two u k l)
 
 -- ---- insert
 -- a slot that has a key and is well formed is used
 pub keyed-used : (x : Slot) (v : Version) (one two : ℤ) → wellFormed x v ≡ true → hasKey x one two ≡ true → Used x v
 keyed-used x v one two w h = formed-cases x v w (λ e. clash h (rw e (empty-keyless one two))) (λ u. u)
 
-pub insert-wrote : (t : List ℤ) (v : Version) (one two a b : ℤ) → Whole t v → insertRefusal t v one two a b ≡ 0
+pub insert-wrote : (t : List ℤ) (v : Version) (one two a b : ℤ) → Whole t v → Distinct t → insertRefusal t v one two a b ≡ 0
     → Wrote t v one two (Row one two a b) (insertSlot t v one two) (insertWords t v one two a b)
 unfolding insertRefusal insertWords
-insert-wrote t v one two a b whole h =
+insert-wrote t v one two a b whole distinct h =
     let no = none _ tt h in
     let g = given a b (no 13) in
     let x = keyed t one two in
@@ -139,7 +139,7 @@ insert-wrote t v one two a b whole h =
       place = ltb-true _ _ room;
       words = rw h refl;
       alone = by-test (ltb k (slots t))
-          (λ y. rw y (only t (whole .distinct) k one two (keySlot-is t one two .passes (ltb-true _ _ y))))
+          (λ y. rw y (only t distinct k one two (keySlot-is t one two .passes (ltb-true _ _ y))))
           (λ n. λ j ne. absent-nowhere t one two (no 1) (ltb-false _ _ n) j);
       effect = by-test (ltb k (slots t))
           (λ y. let has = keySlot-is t one two .passes (ltb-true _ _ y) in
@@ -160,17 +160,17 @@ came : {t t′ : List ℤ} {v : Version} {one two : ℤ} {after : Seen} {r : Pla
 came {n = zero} refused accepted wrote = accepts _ (accepted refl) (wrote refl)
 came {n = suc m} refused accepted wrote = refuses m (refused m refl)
 
-pub insert-came : (t : List ℤ) (v : Version) (one two a b : ℤ) → Whole t v
+pub insert-came : (t : List ℤ) (v : Version) (one two a b : ℤ) → Whole t v → Distinct t
     → Came t v one two (Row one two a b) (insertAnswer t v one two a b) (insertWords t v one two a b)
-insert-came t v one two a b whole =
-    came {n = insertRefusal t v one two a b} (insert-refuses t v one two a b) (insert-accepts t v one two a b) (insert-wrote t v one two a b whole)
+insert-came t v one two a b whole distinct =
+    came {n = insertRefusal t v one two a b} (insert-refuses t v one two a b) (insert-accepts t v one two a b) (insert-wrote t v one two a b whole distinct)
 
-pub update-came : (t : List ℤ) (v : Version) (one two a b : ℤ) → Whole t v
+pub update-came : (t : List ℤ) (v : Version) (one two a b : ℤ) → Whole t v → Distinct t
     → Came t v one two (Row one two a b) (updateAnswer t v one two a b) (updateWords t v one two a b)
-update-came t v one two a b whole =
-    came {n = updateRefusal t v one two a b} (update-refuses t v one two a b) (update-accepts t v one two a b) (update-wrote t v one two a b whole)
+update-came t v one two a b whole distinct =
+    came {n = updateRefusal t v one two a b} (update-refuses t v one two a b) (update-accepts t v one two a b) (update-wrote t v one two a b whole distinct)
 
-pub delete-came : (t : List ℤ) (v : Version) (one two : ℤ) → Whole t v
+pub delete-came : (t : List ℤ) (v : Version) (one two : ℤ) → Whole t v → Distinct t
     → Came t v one two NoRow (deleteAnswer t v one two) (deleteWords t v one two)
-delete-came t v one two whole =
-    came {n = deleteRefusal t v one two} (delete-refuses t v one two) (delete-accepts t v one two) (delete-wrote t v one two whole)
+delete-came t v one two whole distinct =
+    came {n = deleteRefusal t v one two} (delete-refuses t v one two) (delete-accepts t v one two) (delete-wrote t v one two whole distinct)

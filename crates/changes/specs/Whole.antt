@@ -1,21 +1,19 @@
--- A whole table: its shape is not refused, every slot is well formed, and no key has two slots. A change writes one slot of it,
--- no other slot has the key, and it stays whole: shown once for every change, over its effect. Assumes nothing.
-use mathlib.Core.Path.{_≡_, sym, _∙_}
+-- A whole table: its shape is not refused, and every slot is well formed. A change writes one slot of it, no other slot has the
+-- key, and it stays whole: shown once for every change, over its effect. Assumes nothing.
+use mathlib.Core.Path.{_≡_, _∙_}
 use mathlib.Core.Bool.{true, false}
-use mathlib.Core.Logic.{⊎-elim}
 use mathlib.Core.List.{List}
 use Prim.Native.Nat.{ℕ, _<_}
 use lib.Dec.{eqb}
 use lib.IntN.{ℤ}
 use borrow.Author.Tests.{eqb-true, eqb-false}
-use Rattle.laws.specs.Tests.{by-test, clash}
+use Rattle.laws.specs.Tests.{by-test}
 use Rattle.version.specs.declared.Version.{Version}
 use Rattle.table.specs.declared.Slot.{Slot}
 use Rattle.table.specs.Slots.{badTable, slots, slotAt, putSlot}
 use Rattle.table.specs.SlotLaws.{put-same, put-other, put-sound}
 use Rattle.table.specs.Formed.{wellFormed}
 use Rattle.searches.specs.Keys.{hasKey}
-use Rattle.searches.specs.KeyLaws.{has-key, empty-keyless}
 use Rattle.reads.specs.declared.Seen.{Seen}
 use Rattle.changes.specs.Effects.{Effect}
 
@@ -26,7 +24,6 @@ Distinct t = (i j : ℕ) (one two : ℤ) → hasKey (slotAt t i) one two ≡ tru
 pub record Whole (t : List ℤ) (v : Version) : Type 0 where
   pub shape : badTable t ≡ false
   pub formed : (k : ℕ) → wellFormed (slotAt t k) v ≡ true
-  pub distinct : Distinct t
 
 -- what an accepted change of a key leaves: slot k is written, to the effect that the change says, and no other slot has the key
 pub record Wrote (t : List ℤ) (v : Version) (one two : ℤ) (after : Seen) (k : ℕ) (t′ : List ℤ) : Type 0 where
@@ -40,7 +37,7 @@ pub record Wrote (t : List ℤ) (v : Version) (one two : ℤ) (after : Seen) (k 
 by-place : {P : Type 0} (j k : ℕ) → (j ≡ k → P) → ((j ≡ k → ⊥) → P) → P
 by-place j k f g = by-test (eqb j k) (λ y. f (eqb-true j k y)) (λ n. g (eqb-false j k n))
 
--- a key's slot in a whole table is the only one that has it
+-- where no key has two slots, a key's slot is the only one that has it
 pub only : (t : List ℤ) → Distinct t → (k : ℕ) (one two : ℤ) → hasKey (slotAt t k) one two ≡ true
     → (j : ℕ) → (j ≡ k → ⊥) → hasKey (slotAt t j) one two ≡ false
 only t d k one two h j ne = by-test (hasKey (slotAt t j) one two) (λ y. absurd (ne (d j k one two y h))) (λ n. n)
@@ -56,28 +53,9 @@ module _ (t : List ℤ) (v : Version) (one two : ℤ) (after : Seen) (k : ℕ) (
   formed-after j =
       by-place j k (λ e. rw (e, written-slot) (w .effect .formed)) (λ ne. rw (other-slot j ne) (whole .formed j))
 
-  -- a slot elsewhere has no key that the written one has
-  apart : (j : ℕ) → (j ≡ k → ⊥) → (p q : ℤ) → hasKey (w .slot) p q ≡ true → hasKey (slotAt t j) p q ≡ false
-  apart j ne p q h =
-      ⊎-elim
-      (λ e. clash h (rw e (empty-keyless p q)))
-      (λ y. let x = has-key (w .slot) p q h in
-      rw (sym (x .key1) ∙ y .key1, sym (x .key2) ∙ y .key2) (w .alone j ne))
-      (w .effect .key)
-
-  distinct-after : Distinct t′
-  distinct-after i j p q hi hj =
-      by-place i k
-      (λ ei. by-place j k (λ ej. ei ∙ sym ej)
-      (λ nj. clash (rw (other-slot j nj) at hj) (apart j nj p q (rw (ei, written-slot) at hi))))
-      (λ ni. by-place j k
-      (λ ej. clash (rw (other-slot i ni) at hi) (apart i ni p q (rw (ej, written-slot) at hj)))
-      (λ nj. whole .distinct i j p q (rw (other-slot i ni) at hi) (rw (other-slot j nj) at hj)))
-
   -- the table is whole after it
   pub whole-after : Whole t′ v
   whole-after = record {
     shape = rw (w .words) (put-sound t k (w .slot) ∙ whole .shape);
     formed = formed-after;
-    distinct = distinct-after;
   }

@@ -80,7 +80,7 @@ pub record Worked : Type 0 where
   pub none-refused : map accepted (answersGot 2 turns at2) ≡ true ∷ true ∷ []
   pub rows : rowsGot (answersGot 2 turns at2) ≡ second-row ∷ first-row ∷ []
   -- what was followed at version 2, and in run 3
-  pub told : at2 .told ≡ record { committed = [] ∷ (second-row ∷ first-row ∷ []) ∷ []; running = second-row ∷ first-row ∷ []; begun = 2; active = false }
+  pub told : at2 .told ≡ record { origin = 1; opening = []; committed = (second-row ∷ first-row ∷ []) ∷ []; running = second-row ∷ first-row ∷ []; begun = 2; active = false }
   pub running : in3 .told .running ≡ row (pos 1) (pos 14) (pos 120) (pos 0) ∷ []
   -- the region's roll-up in the run is its stores' sum at version 2
   pub region : answerOf (rollUp (pos 2) (pos 1)) in3 ≡ answer.rolled (rolled.Sums 2 (pos 300) (pos 0))

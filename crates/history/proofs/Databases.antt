@@ -13,7 +13,7 @@ use Rattle.laws.specs.Order.{eqZ, eqZ-true, eqZ-same}
 use Rattle.reads.specs.declared.Seen.{Seen}
 use Rattle.reads.specs.declared.Seen.the-variants as seen
 use Rattle.reads.specs.RollUp.{Tally, tally, tallied, counted}
-use Rattle.history.specs.Databases.{Row, Database, isKey, holds, without, found, asSeen, beside}
+use Rattle.history.specs.Databases.{Row, Database, isKey, holds, NoRepeat, without, found, asSeen, beside}
 
 -- ---- tests
 pub neither : (a b : Bool) → a || b ≡ false → (a ≡ false) × (b ≡ false)
@@ -82,10 +82,6 @@ pub beside-perm : (a : Database) {d e : Database} → List·Permᴰ d e → List
 beside-perm a = left-perm (λ r. holds (r .key1) (r .key2) a) (beside a) refl (λ r d. refl)
 
 -- ---- no key twice
-abbrev pub NoRepeat : Database → Type 0
-NoRepeat [] = Unit {0}
-NoRepeat (r ∷ d) = (holds (r .key1) (r .key2) d ≡ false) × NoRepeat d
-
 -- the key of a row that is no other's is not the other's either
 apart : (a b : Row) → isKey (a .key1) (a .key2) b ≡ false → isKey (b .key1) (b .key2) a ≡ false
 apart a b n =

@@ -1,7 +1,7 @@
--- Histories: lists of calls from a fresh table and a fresh record, any numbers in them, with no load. The lent things are the
--- fold of `perform`; beside them goes what is followed. Assumes nothing.
+-- Histories: lists of calls from a fresh table and a fresh record, any numbers in them, with no block loaded. The lent things are
+-- the fold of `perform`; beside them goes what is followed. Assumes nothing.
 use mathlib.Core.Path.{_≡_}
-use mathlib.Core.Bool.{Bool, true, false}
+use mathlib.Core.Bool.{Bool, false}
 use mathlib.Core.List.{List, [], _∷_}
 use Prim.Native.Nat.{ℕ, _≤_}
 use lib.IntN.{pos}
@@ -10,39 +10,19 @@ use Rattle.calls.specs.Calls.{Call, openSession, begin, commit, readSlot, readK
 use Rattle.calls.specs.Perform.{State, perform}
 use Rattle.history.specs.Followed.{Followed, start, accepted, followed}
 
--- no block loaded
-abbrev pub isLoad : Call → Bool
-isLoad openSession = false
-isLoad begin = false
-isLoad commit = false
-isLoad (readSlot s k) = false
-isLoad (readKey s one two) = false
-isLoad (rollUp s one) = false
-isLoad (insert one two a b) = false
-isLoad (update one two a b) = false
-isLoad (delete one two) = false
-isLoad saveHeader = false
-isLoad (saveBlock k) = false
-isLoad (loadHeader b) = false
-isLoad (loadBlock k b) = true
-
-abbrev pub NoLoad : List Call → Type 0
-NoLoad [] = Unit {0}
-NoLoad (call ∷ h) = (isLoad call ≡ false) × NoLoad h
-
 -- 1 to 1,024 slots
-pub record Size (n : ℕ) : Type 0 where
-  pub some : 1 ≤ n
-  pub few : n ≤ 1024
+pub record Size (m : ℕ) : Type 0 where
+  pub some : 1 ≤ m
+  pub few : m ≤ 1024
 
 -- the lent things, and what was followed
 pub record World : Type 0 where
   pub state : State
   pub told : Followed
 
--- a fresh table of n slots and a fresh record
+-- a fresh table of m slots and a fresh record
 abbrev pub fresh : ℕ → World
-fresh n = record { state = record { words = freshTable n; version = freshRecord; block = [] }; told = start }
+fresh m = record { state = record { words = freshTable m; version = freshRecord; block = [] }; told = start }
 
 -- one call
 abbrev pub answerOf : Call → World → Answer
@@ -55,6 +35,26 @@ next call w = record { state = perform call (w .state) .state; told = followed (
 abbrev pub after : List Call → World → World
 after [] w = w
 after (call ∷ h) w = after h (next call w)
+
+-- ---- no block loaded: a load that is accepted starts another history, one that is refused is a call like any other
+abbrev pub loads : Call → World → Bool
+loads openSession w = false
+loads begin w = false
+loads commit w = false
+loads (readSlot s k) w = false
+loads (readKey s one two) w = false
+loads (rollUp s one) w = false
+loads (insert one two a b) w = false
+loads (update one two a b) w = false
+loads (delete one two) w = false
+loads saveHeader w = false
+loads (saveBlock k) w = false
+loads (loadHeader b) w = false
+loads (loadBlock k b) w = accepted (answerOf (loadBlock k b) w)
+
+abbrev pub NoLoad : List Call → World → Type 0
+NoLoad [] w = Unit {0}
+NoLoad (call ∷ h) w = (loads call w ≡ false) × NoLoad h (next call w)
 
 -- ---- a session among the other calls: it reads a slot, or another call is made
 pub data Turn : Type 0 where

@@ -1,22 +1,23 @@
--- How the contracts of begin and commit are shown: a refusal leaves the record as it was; what is not refused is done. And what
--- was tested where a call is accepted. Assumes nothing.
-use mathlib.Core.Path.{_≡_, refl}
+-- How the contracts of begin and commit are shown: a refusal leaves the record as it was; what is not refused is done. What
+-- was tested where a call is accepted, and what is left to test of a sound record. Assumes nothing.
+use mathlib.Core.Path.{_≡_, refl, _∙_}
 use mathlib.Core.Bool.{true, false}
+use mathlib.Core.List.{[], _∷_}
 use Prim.Native.Nat.{ℕ, suc, _+_}
 use native.Mathlib.Omega.{arith}
 use lib.IntN.{ℤ, pos, negsuc, _+ℤ_}
 use lib.Signed.{leZ}
 use borrow.Author.Tests.{leb-true, le-leb, eqb-false}
 use Rattle.laws.specs.Tests.{clash, not-no}
-use Rattle.laws.specs.First.{unless-refused, unless-done, none}
+use Rattle.laws.specs.First.{first, unless-refused, unless-done, none, skip, done}
 use Rattle.laws.specs.Order.{eqZ, next-low}
 use Rattle.version.specs.declared.Version.{Version}
 use Rattle.version.specs.declared.Numbered.{Numbered}
 use Rattle.version.specs.declared.Numbered.the-variants.{Number, Refused}
 use Rattle.version.specs.declared.Turned.{Turned}
-use Rattle.version.specs.Record.{largestVersion, badRecord, runNumber}
+use Rattle.version.specs.Record.{largestVersion, badRecord, idle, runNumber}
 use Rattle.version.specs.RecordLaws.{sound, known}
-use Rattle.version.specs.Runs.{keptAs, beginRefusal, beginAnswer, beginRecord, begunFrom, Begun, commitRefusal, commitAnswer, commitRecord, committedFrom, Committed}
+use Rattle.version.specs.Runs.{openRefusal, openAnswer, keptAs, beginRefusal, beginAnswer, beginRecord, begunFrom, Begun, commitRefusal, commitAnswer, commitRecord, committedFrom, Committed}
 
 pub begin-kept : {v : Version} {n : ℕ} → beginRefusal v ≡ n → (n ≡ 0 → ⊥) → Begun v (keptAs v n)
 unfolding beginAnswer beginRecord
@@ -81,6 +82,19 @@ unfolding commitRefusal
 can-commit v h =
     let no = none _ tt h in
     record { known = no 2; active = not-no (no 8) }
+
+-- ---- of a sound record open answers current, begin is refused by the run or by the versions left, commit by the run
+pub open-answers : (v : Version) → badRecord v ≡ false → openAnswer v ≡ Number (v .current)
+unfolding openAnswer openRefusal
+open-answers v b = rw (skip 2 [] b ∙ done)
+
+pub begin-left : (v : Version) → badRecord v ≡ false → beginRefusal v ≡ first ((v .active, 7) ∷ (eqZ (v .current) largestVersion, 9) ∷ [])
+unfolding beginRefusal
+begin-left v b = skip 2 _ b
+
+pub commit-left : (v : Version) → badRecord v ≡ false → commitRefusal v ≡ first ((idle v, 8) ∷ [])
+unfolding commitRefusal
+commit-left v b = skip 2 _ b
 
 -- ---- what they leave is sound: a version is left to begin at, and the run's number is one of them
 below-largest : (c : ℤ) → leZ (pos 1) c ≡ true → leZ c largestVersion ≡ true → eqZ c largestVersion ≡ false → leZ (c +ℤ pos 1) largestVersion ≡ true

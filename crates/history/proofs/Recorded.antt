@@ -1,0 +1,85 @@
+-- The version record in a history: it is sound, says what was followed, and expires a committed version exactly when that is gone
+-- from a table that keeps n versions. For the record of two versions a change leaves it so, and so do begin and commit, by the law
+-- of expiry. Assumes nothing.
+use mathlib.Core.Path.{_≡_, refl, sym, ap, _∙_}
+use mathlib.Core.Bool.{true, false}
+use Prim.Native.Nat.{ℕ, suc, _+_, _≤_}
+use native.Mathlib.Numerals.{add-one}
+use native.Mathlib.Omega.{arith}
+use lib.Dec.{leb}
+use lib.IntN.{pos, _+ℤ_}
+use borrow.Author.Tests.{le-leb, lt-leb}
+use Rattle.version.specs.declared.Version.{Version}
+use Rattle.version.specs.Record.{badRecord, freshRecord, runNumber}
+use Rattle.version.specs.RecordLaws.{fresh-sound}
+use Rattle.version.specs.Sessions.{unborn, expired}
+use Rattle.version.specs.SessionLaws.{born, expires}
+use Rattle.version.specs.Runs.{beginRefusal, begunFrom, commitRefusal, committedFrom}
+use Rattle.version.specs.RunLaws.{can-begin, can-commit, begun-sound, committed-sound}
+use Rattle.history.specs.Databases.{Database}
+use Rattle.history.specs.Followed.{Followed, start, current, Committed, Gone, withRunning, runBegun, runCommitted}
+use Rattle.history.proofs.Growth.{counted}
+
+pub record Recorded (n : ℕ) (v : Version) (g : Followed) : Type 0 where
+  pub known : badRecord v ≡ false
+  pub origin : 1 ≤ g .origin
+  pub version : v .current ≡ pos (current g)
+  pub active : v .active ≡ g .active
+  pub expiry : (s : ℕ) → Committed g s → expired v (pos s) ≡ leb (s + n) (g .begun)
+
+module _ {n : ℕ} {v : Version} {g : Followed} (x : Recorded n v g) where
+  pub run-is : pos (suc (current g)) ≡ runNumber v
+  run-is = ap pos (sym (add-one (current g))) ∙ ap (λ z. z +ℤ pos 1) (sym (x .version))
+
+  -- a committed version is no future one, and is refused as expired exactly when it is gone
+  module _ {s : ℕ} (c : Committed g s) where
+    pub is-born : unborn v (pos s) ≡ false
+    is-born = born v (current g) s (x .version) (omega (arith, x .origin, c .from)) (c .to)
+
+    pub is-gone : Gone n g s → expired v (pos s) ≡ true
+    is-gone h = x .expiry s c ∙ le-leb (s + n) (g .begun) h
+
+    pub is-kept : (Gone n g s → ⊥) → expired v (pos s) ≡ false
+    is-kept still = x .expiry s c ∙ lt-leb (s + n) (g .begun) (omega arith)
+
+  pub change-recorded : (d : Database) → Recorded n v (withRunning g d)
+  change-recorded d = record {
+    known = x .known;
+    origin = x .origin;
+    version = x .version;
+    active = x .active;
+    expiry = λ s c. x .expiry s (record { from = c .from; to = c .to });
+  }
+
+-- ---- the record of two versions
+pub fresh-recorded : Recorded 2 freshRecord start
+fresh-recorded = record { known = fresh-sound; origin = omega arith; version = refl; active = refl; expiry = λ s c. expires freshRecord 1 s refl (omega arith) }
+
+module _ {v : Version} {g : Followed} (x : Recorded 2 v g) where
+  module _ (h : beginRefusal v ≡ 0) where
+    pub begin-idle : g .active ≡ false
+    begin-idle = sym (x .active) ∙ can-begin v h .idle
+
+    pub begin-recorded : Recorded 2 (begunFrom v) (runBegun g)
+    begin-recorded = record {
+      known = begun-sound v h;
+      origin = x .origin;
+      version = x .version;
+      active = refl;
+      expiry = λ s c. expires (begunFrom v) (current g) s (x .version) (omega (arith, x .origin));
+    }
+
+  module _ (h : commitRefusal v ≡ 0) where
+    pub commit-runs : g .active ≡ true
+    commit-runs = sym (x .active) ∙ can-commit v h .active
+
+    pub commit-recorded : g .begun ≡ suc (current g) → Recorded 2 (committedFrom v) (runCommitted g)
+    commit-recorded begun =
+        let version : runNumber v ≡ pos (current (runCommitted g)) = rw (counted g, run-is x) in
+        record {
+          known = committed-sound v h;
+          origin = x .origin;
+          version = version;
+          active = refl;
+          expiry = λ s c. expires (committedFrom v) (current (runCommitted g)) s version (omega (arith, x .origin)) ∙ rw (counted g, begun);
+        }

@@ -1,0 +1,131 @@
+-- The table of two versions as a view: a version sees of a slot what Table 1 shows, and a slot has the key of its words. The key
+-- search finds a key's place. An accepted change writes one slot to its effect; at a begin no slot is of a run above current, so
+-- that the next number shows what current shows. What the table itself keeps in a history is `Sound`. Assumes nothing.
+use mathlib.Core.Path.{_≡_, refl, sym, _∙_}
+use mathlib.Core.Bool.{true}
+use mathlib.Core.Logic.{⊎-elim}
+use mathlib.Core.List.{List, []}
+use mathlib.Core.List as L
+use Prim.Native.Nat.{ℕ, zero, suc, _+_}
+use native.Mathlib.Omega.{arith}
+use lib.Dec.{ltb}
+use lib.IntN.{ℤ, pos}
+use lib.Signed.{leZ}
+use borrow.Author.Tests.{ltb-true, ltb-false, le-leb}
+use Rattle.laws.specs.Tests.{by-test, clash}
+use Rattle.laws.specs.Order.{leZ-refl, leZ-trans, from-to}
+use Rattle.version.specs.declared.Version.{Version}
+use Rattle.version.specs.Record.{freshRecord, runNumber, lastRun}
+use Rattle.version.specs.Runs.{beginRefusal, begunFrom, commitRefusal, committedFrom}
+use Rattle.version.specs.RunLaws.{can-begin, can-commit}
+use Rattle.table.specs.Slots.{slots, slotAt, freshTable}
+use Rattle.table.specs.SlotLaws.{put-length, fresh-slots, fresh-shape, fresh-slot}
+use Rattle.table.specs.FormedLaws.{formed-cases, formed-later, empty-formed}
+use Rattle.searches.specs.Keys.{hasKey, keySlot}
+use Rattle.searches.specs.KeyLaws.{has-key, keyed-has, keySlot-is, empty-keyless, absent-empty, absent-nowhere}
+use Rattle.reads.specs.declared.Seen.{Seen}
+use Rattle.reads.specs.Table1.{shown}
+use Rattle.reads.specs.Table1Laws.{shown-empty}
+use Rattle.reads.specs.ShownLaws.{shown-own, shown-later}
+use Rattle.changes.specs.Whole.{Whole, Wrote, written-slot, other-slot, whole-after}
+use Rattle.history.specs.Databases.{Database}
+use Rattle.history.specs.Followed.{Followed, start, current, withRunning, runBegun, runCommitted}
+use Rattle.history.specs.Histories.{Size}
+use Rattle.history.proofs.Views.{View, Owned, Place, here, nowhere, rowsAt}
+use Rattle.history.proofs.Invariant.{Inv, start-inv}
+use Rattle.history.proofs.Written.{Written}
+use Rattle.history.proofs.Recorded.{Recorded, run-is, change-recorded, fresh-recorded, begin-recorded, commit-runs, commit-recorded}
+
+abbrev pub viewOf : List ℤ → View
+viewOf t = record {
+  shown = λ s k. shown (pos s) (slotAt t k);
+  has = λ k. hasKey (slotAt t k);
+  owned = λ s k. shown-own (Owned (hasKey (slotAt t k))) (pos s) (slotAt t k) (λ u a b. keyed-has (record { used = u; key1 = refl; key2 = refl })) tt;
+  one-key = λ k p q p′ q′ h h′. let x = has-key (slotAt t k) p q h in let y = has-key (slotAt t k) p′ q′ h′ in (sym (x .key1) ∙ y .key1, sym (x .key2) ∙ y .key2);
+}
+
+-- ---- what the table and its record keep
+pub record Sound (m : ℕ) (t : List ℤ) (v : Version) (g : Followed) : Type 0 where
+  pub size : slots t ≡ m
+  pub whole : Whole t v
+  pub recorded : Recorded 2 v g
+
+-- ---- a fresh table
+fresh-rows : (n m s : ℕ) → rowsAt (viewOf (freshTable n)) s m ≡ []
+fresh-rows n zero s = refl
+fresh-rows n (suc m) s = rw (fresh-slot n m, shown-empty (pos s)) (fresh-rows n m s)
+
+pub fresh-table : (m : ℕ) → Size m → Sound m (freshTable m) freshRecord start
+fresh-table m size = record {
+  size = fresh-slots m;
+  whole = record {
+    shape = fresh-shape m (size .some) (size .few);
+    formed = λ k. rw (fresh-slot m k) (empty-formed freshRecord);
+  };
+  recorded = fresh-recorded;
+}
+
+pub fresh-inv : (m : ℕ) → Inv 2 m (viewOf (freshTable m)) start
+fresh-inv m = start-inv 1 [] (omega arith) (record { slot = λ i j one two hi hj. clash hi (rw (fresh-slot m i) (empty-keyless one two)) }) (rw (fresh-rows m m 1) L.List·Permᴰ·nil)
+
+module _ {m : ℕ} {t : List ℤ} {v : Version} {g : Followed} (x : Sound m t v g) where
+  -- the key search finds a key's place
+  pub key-place : (one two : ℤ) → Place (viewOf t) m one two (keySlot t one two)
+  key-place one two =
+      by-test (ltb (keySlot t one two) (slots t))
+      (λ y. let l = ltb-true _ _ y in here (rw (x .size) at l) (keySlot-is t one two .passes l))
+      (λ n. let past = ltb-false _ _ n in
+      nowhere (absent-nowhere t one two (x .whole .shape) past) (λ s. rw (absent-empty t one two (x .whole .shape) past) (shown-empty (pos s))))
+
+  -- ---- a change in a run, in which the one open version is current
+  module _ (i : Inv 2 m (viewOf t) g) (a : g .active ≡ true) {one two : ℤ} {after : Seen} {k : ℕ} {t′ : List ℤ} (w : Wrote t v one two after k t′) where
+    written : slotAt t′ k ≡ w .slot
+    written = written-slot t v one two after k t′ (x .whole) w
+
+    pub change-written : Written 2 m (viewOf t) g one two after k (viewOf t′)
+    change-written = record {
+      place = rw (x .size) at (w .place);
+      others = λ j ne s. rw (other-slot t v one two after k t′ (x .whole) w j ne);
+      other-keys = λ j ne p q. rw (other-slot t v one two after k t′ (x .whole) w j ne);
+      alone = w .alone;
+      stays = λ s c still. let e : s ≡ current g = omega (arith, i .in-run a) in rw (written, e, ← x .recorded .version) (w .effect .low);
+      before = rw (run-is (x .recorded)) (w .effect .before);
+      now = rw (written, run-is (x .recorded)) (w .effect .high);
+      key = λ p q h. ⊎-elim (λ e. clash (rw written at h) (rw e (empty-keyless p q)))
+          (λ y. let z = has-key (w .slot) p q (rw written at h) in (sym (z .key1) ∙ y .key1, sym (z .key2) ∙ y .key2)) (w .effect .key);
+    }
+
+    pub change-sound : (d : Database) → Sound m t′ v (withRunning g d)
+    change-sound d = record {
+      size = rw (w .words, put-length t k (w .slot)) (x .size);
+      whole = whole-after t v one two after k t′ (x .whole) w;
+      recorded = change-recorded (x .recorded) d;
+    }
+
+  -- ---- begin and commit write no slot, and the last run is no earlier after them
+  later-whole : {v′ : Version} → leZ (lastRun v) (lastRun v′) ≡ true → Whole t v′
+  later-whole {v′} l = record { shape = x .whole .shape; formed = λ k. formed-later (slotAt t k) v v′ l (x .whole .formed k) }
+
+  module _ (h : beginRefusal v ≡ 0) where
+    pub same-above : (j : ℕ) → shown (pos (suc (current g))) (slotAt t j) ≡ shown (pos (current g)) (slotAt t j)
+    same-above j =
+        formed-cases (slotAt t j) v (x .whole .formed j)
+        (λ e. rw (e, shown-empty (pos (suc (current g))), shown-empty (pos (current g))))
+        (λ u. let r : leZ (slotAt t j .run) (pos (current g)) ≡ true =
+        rw (can-begin v h .idle, x .recorded .version) at (from-to (pos 1) (lastRun v) (slotAt t j .run) (u .run) .high) in
+        shown-later (pos (current g)) (pos (suc (current g))) (slotAt t j) r
+        (leZ-trans (slotAt t j .run) (pos (current g)) (pos (suc (current g))) r (le-leb (current g) (suc (current g)) (omega arith))))
+
+    pub begin-sound : Sound m t (begunFrom v) (runBegun g)
+    begin-sound = record {
+      size = x .size;
+      whole = later-whole (rw (can-begin v h .idle, x .recorded .version) (le-leb (current g) (current g + 1) (omega arith)));
+      recorded = begin-recorded (x .recorded) h;
+    }
+
+  pub commit-sound : Inv 2 m (viewOf t) g → commitRefusal v ≡ 0 → Sound m t (committedFrom v) (runCommitted g)
+  commit-sound i h = record {
+    size = x .size;
+    whole = later-whole (rw (can-commit v h .active) (leZ-refl (runNumber v)));
+    recorded = commit-recorded (x .recorded) h (i .in-run (commit-runs (x .recorded) h));
+  }

@@ -1,0 +1,99 @@
+-- One slot written, by a change of a key in a run, is a step: each open version sees there what it saw, and the rows of the
+-- others are the running database without the key, since no other slot has it; so with what the slot now shows put first the
+-- rows are what the change makes of that database. A call of several changes is these one after another. Assumes nothing.
+use mathlib.Core.Path.{_≡_, refl, sym, _∙_}
+use mathlib.Core.Bool.{true, false}
+use mathlib.Core.List.{_++_, List·Permᴰ, Permᴰ·symm, Permᴰ·append-left}
+use mathlib.Core.List as L
+use Prim.Native.Nat.{ℕ, suc, _<_}
+use lib.Dec.{eqb}
+use lib.IntN.{ℤ}
+use borrow.Author.Tests.{eqb-true, eqb-false}
+use Rattle.laws.specs.Tests.{by-test, clash}
+use Rattle.calls.specs.Seen.{Seen}
+use Rattle.calls.specs.Seen as seen
+use Rattle.changes.specs.Effects.{Own}
+use Rattle.history.specs.Databases.{Database, row, without, rowsOf, upTo}
+use Rattle.history.specs.Followed.{Followed, current, Committed, Gone, withRunning}
+use Rattle.history.proofs.Databases.{without-absent, without-perm, is-key}
+use Rattle.history.proofs.Rows.{rowsFor, hiding, focus, rows-same}
+use Rattle.history.proofs.Views.{View, rowsAt, rest-lacks}
+use Rattle.history.proofs.Growth.{standing-grows}
+use Rattle.history.proofs.Invariant.{Inv, Step, rows-stay}
+
+-- a change of the key that is to show `after` at the run's number writes slot k
+pub record Written (n m : ℕ) (T : View) (g : Followed) (one two : ℤ) (after : Seen) (k : ℕ) (T′ : View) : Type 0 where
+  pub place : k < m
+  -- the other slots stay, and none of them has the key
+  pub others : (j : ℕ) → (j ≡ k → ⊥) → (s : ℕ) → T′ .shown s j ≡ T .shown s j
+  pub other-keys : (j : ℕ) → (j ≡ k → ⊥) → (p q : ℤ) → T′ .has j p q ≡ T .has j p q
+  pub alone : (j : ℕ) → (j ≡ k → ⊥) → T .has j one two ≡ false
+  -- each open version sees in the slot what it saw
+  pub stays : (s : ℕ) → Committed g s → (Gone n g s → ⊥) → T′ .shown s k ≡ T .shown s k
+  -- the run saw there no row, or one of the key, and sees what the change says
+  pub before : Own one two (T .shown (suc (current g)) k)
+  pub now : T′ .shown (suc (current g)) k ≡ after
+  -- it is left with no key, or with this one
+  pub key : (p q : ℤ) → T′ .has k p q ≡ true → (p ≡ one) × (q ≡ two)
+
+by-place : {P : Type 0} (j k : ℕ) → (j ≡ k → P) → ((j ≡ k → ⊥) → P) → P
+by-place j k f g = by-test (eqb j k) (λ y. f (eqb-true j k y)) (λ n. g (eqb-false j k n))
+
+-- a row of the key, and no row, are gone without it
+own-gone : (one two : ℤ) (r : Seen) (d : Database) → Own one two r → without one two (rowsOf r ++ d) ≡ without one two d
+own-gone one two (seen.Row k1 k2 a b) d o = rw (is-key one two (row k1 k2 a b) (o .0) (o .1))
+own-gone one two seen.NoRow d o = refl
+own-gone one two (seen.Refused m) d o = absurd o
+
+module _ {n m : ℕ} {T : View} {g : Followed} (i : Inv n m T g) (a : g .active ≡ true)
+    {one two : ℤ} {after : Seen} {k : ℕ} {T′ : View} (w : Written n m T g one two after k T′) where
+  slots-stay : (s : ℕ) → Committed g s → (Gone n g s → ⊥) → (j : ℕ) → T′ .shown s j ≡ T .shown s j
+  slots-stay s c kept j = by-place j k (λ e. rw e (w .stays s c kept)) (λ ne. w .others j ne s)
+
+  -- no key has two slots: the others have not the one that this has
+  apart : (j : ℕ) → (j ≡ k → ⊥) → (p q : ℤ) → T′ .has j p q ≡ true → T′ .has k p q ≡ true → ⊥
+  apart j ne p q hj hk = let e = w .key p q hk in clash (rw (w .other-keys j ne p q, e .0, e .1) at hj) (w .alone j ne)
+
+  distinct-after : (j l : ℕ) (p q : ℤ) → T′ .has j p q ≡ true → T′ .has l p q ≡ true → j ≡ l
+  distinct-after j l p q hj hl =
+      by-place j k
+      (λ ej. by-place l k (λ el. ej ∙ sym el) (λ nl. absurd (apart l nl p q hl (rw ej at hj))))
+      (λ nj. by-place l k
+      (λ el. absurd (apart j nj p q hj (rw el at hl)))
+      (λ nl. i .distinct .slot j l p q (rw (w .other-keys j nj p q) at hj) (rw (w .other-keys l nl p q) at hl)))
+
+  -- the rows of the other slots are those that the running database has beside the key's
+  abbrev sees : ℕ → Seen
+  sees = T .shown (suc (current g))
+
+  abbrev rest : Database
+  rest = rowsFor (hiding k sees) (upTo m)
+
+  others : List·Permᴰ rest (without one two (g .running))
+  others =
+      let e : without one two (rowsOf (sees k) ++ rest) ≡ rest =
+      own-gone one two (sees k) rest (w .before) ∙ without-absent one two rest (rest-lacks (i .distinct) sees (T .owned (suc (current g))) k m one two (w .alone)) in
+      rw e at (without-perm one two (L.List·Permᴰ·trans (Permᴰ·symm (focus sees k m (w .place))) (i .top a)))
+
+  running-rows : List·Permᴰ (rowsAt T′ (suc (current g)) m) (rowsOf after ++ without one two (g .running))
+  running-rows =
+      let sees′ = T′ .shown (suc (current g)) in
+      let same : rowsFor (hiding k sees′) (upTo m) ≡ rest = rows-same (hiding k sees) (hiding k sees′) m
+      (λ j l. by-test (eqb j k) (λ y. rw y refl) (λ ne. rw (ne, w .others j (eqb-false j k ne) (suc (current g))))) in
+      L.List·Permᴰ·trans (rw (w .now, same) at (focus sees′ k m (w .place))) (Permᴰ·append-left (rowsOf after) others)
+
+  pub written-step : Step n m T g T′ (withRunning g (rowsOf after ++ without one two (g .running)))
+  written-step = record {
+    inv = record {
+      many = i .many;
+      distinct = record { slot = distinct-after };
+      low = i .low;
+      high = i .high;
+      in-run = i .in-run;
+      settled = λ idle. clash a idle;
+      rows = λ s c. rows-stay i T′ slots-stay s (record { from = c .from; to = c .to });
+      top = λ b. running-rows;
+    };
+    grows = standing-grows g _ _;
+    stays = slots-stay;
+  }
