@@ -11,13 +11,13 @@ use lib.IntN.{ℤ}
 use borrow.Author.Tests.{ltb-true, ltb-false, le-ltb}
 use native.Mathlib.Nat.{lt-of-lt-of-le}
 use Rattle.laws.specs.Tests.{by-test, clash, not-yes}
-use Rattle.laws.specs.First.{first, skip, under}
+use Rattle.laws.specs.First.{first, skip, hit, under}
 use Rattle.laws.specs.Order.{next-ltZ}
 use Rattle.version.specs.declared.Version.{Version}
 use Rattle.version.specs.Record.{badRecord, runNumber}
 use Rattle.version.specs.RecordLaws.{sound}
 use Rattle.table.specs.declared.Slot.{Slot}
-use Rattle.table.specs.Slots.{slots, slotAt}
+use Rattle.table.specs.Slots.{badTable, slots, slotAt}
 use Rattle.table.specs.Operations.{live}
 use Rattle.table.specs.Totals.{unlawful}
 use Rattle.table.specs.Formed.{wellFormed, broken}
@@ -86,3 +86,20 @@ module _ (t : List ℤ) (v : Version) (whole : Whole t v) (known : badRecord v �
       (λ y. inl (shown-current (runNumber v) x (run-within v known active (b .used)) y))
       (λ n. let d = dead-deleted x v (b .used) n in
       inr (shown-removed (v .current) x (sym (next-ltZ (x .run) (v .current) (sound known .low)) ∙ b .not-older d) d))
+
+-- ---- with no run active every change is refused 8
+module _ (t : List ℤ) (v : Version) (shape : badTable t ≡ false) (known : badRecord v ≡ false) (no-run : v .active ≡ false) where
+  given8 : (l : List (Bool × ℕ)) → first (runningTests t v ++ l) ≡ 8
+  given8 l = skip 1 _ shape ∙ skip 2 _ known ∙ hit _ (ap not no-run)
+
+  pub insert-idle : (one two a b : ℤ) → insertRefusal t v one two a b ≡ 8
+  unfolding insertRefusal
+  insert-idle one two a b = given8 _
+
+  pub update-idle : (one two a b : ℤ) → updateRefusal t v one two a b ≡ 8
+  unfolding updateRefusal
+  update-idle one two a b = given8 _
+
+  pub delete-idle : (one two : ℤ) → deleteRefusal t v one two ≡ 8
+  unfolding deleteRefusal
+  delete-idle one two = given8 _

@@ -1,9 +1,11 @@
--- A worked history of a table of two slots, computed: the premises of demand 3's theorems hold in it, so that none of them is
--- empty. A session at version 2 reads one slot before run 3 and the other after it; during the run the table is full; run 4 makes
--- the session expire, and takes the slot that run 3 freed. Assumes nothing.
+-- A worked history of a table of two slots, computed: the premises of demand 3's statements hold in it, so that none of them is
+-- empty. A session at version 2 reads slot 0 before run 3 and slot 1 after it; a load and a change are refused; during run 3 the
+-- table is full; run 4 makes the session expire, and takes the slot that run 3 freed. Assumes nothing.
 use mathlib.Core.Path.{_≡_, refl}
 use mathlib.Core.Bool.{true, false}
-use mathlib.Core.List.{List, [], _∷_, map}
+use mathlib.Core.List.{List, [], _∷_, Perm}
+use mathlib.Core.List as L
+use native.Mathlib.Omega.{arith}
 use lib.IntN.{pos}
 use Rattle.laws.specs.Tests.{all, any}
 use Rattle.laws.specs.First.{first}
@@ -21,18 +23,26 @@ use Rattle.reads.specs.declared.Seen.the-variants as seen
 use Rattle.reads.specs.declared.Rolled.the-variants as rolled
 use Rattle.reads.specs.Table1.{shown}
 use Rattle.reads.specs.ReadSlot.{readSlotRefusal, readSlotAnswer}
+use Rattle.reads.specs.ReadKey.{readKeyRefusal, readKeyAnswer}
 use Rattle.reads.specs.RollUp.{rollUpRefusal, rollUpAnswer}
 use Rattle.changes.specs.declared.Placed.the-variants as placed
 use Rattle.cells.specs.Tables.{changed}
 use Rattle.changes.specs.Insert.{insertRefusal, insertAnswer, insertWords}
 use Rattle.changes.specs.Update.{updateRefusal, updateAnswer, updateWords}
 use Rattle.changes.specs.Delete.{deleteRefusal, deleteAnswer, deleteWords}
-use Rattle.calls.specs.Calls.{Call, begin, commit, insert, update, delete, readSlot, rollUp}
+use Rattle.blocks.specs.declared.Loaded.the-variants as loaded
+use Rattle.blocks.specs.LoadBlock.{loadBlockRefusal, loadBlockAnswer, loadBlockWords}
+use Rattle.calls.specs.Calls.{Call, begin, commit, insert, update, delete, readSlot, readKey, rollUp, loadBlock}
 use Rattle.calls.specs.Calls as answer
-use Rattle.history.specs.Databases.{Row, row}
-use Rattle.history.specs.Followed.{accepted}
-use Rattle.history.specs.Histories.{World, fresh, after, answerOf, Turn, mine, other, slotsAsked, answersGot}
-use Rattle.history.specs.Demand.{rowsGot, bothOf}
+use Rattle.history.specs.Databases.{Row, row, gives}
+use Rattle.history.specs.Followed.{databaseAt, running, Committed}
+use Rattle.history.specs.Kinds.{World, freshWorld, after, answerOf, NoLoad}
+use Rattle.history.specs.Sessions.{Turn, mine, other, answersGot, rowsGot}
+use Rattle.history.specs.Demand.{IsGone, ReadsEach, IsFull}
+use Rattle.history.specs.TwoVersions.{twoVersions}
+
+abbrev TwoWorld : Type 0
+TwoWorld = World twoVersions
 
 -- two rows of one group, and a third
 abbrev first-row : Row
@@ -41,66 +51,99 @@ first-row = row (pos 1) (pos 14) (pos 100) (pos 0)
 abbrev second-row : Row
 second-row = row (pos 1) (pos 15) (pos 200) (pos 0)
 
-abbrev third-row : Row
-third-row = row (pos 2) (pos 14) (pos 300) (pos 0)
-
--- run 2 inserts the two
+-- run 2 inserts the two; before it a load of no bytes is refused, in it an insert of a key that is live
 abbrev run2 : List Call
-run2 = begin ∷ insert (pos 1) (pos 14) (pos 100) (pos 0) ∷ insert (pos 1) (pos 15) (pos 200) (pos 0) ∷ commit ∷ []
+run2 =
+    loadBlock 1 []
+    ∷ begin
+    ∷ insert (pos 1) (pos 14) (pos 100) (pos 0)
+    ∷ insert (pos 1) (pos 15) (pos 200) (pos 0)
+    ∷ insert (pos 1) (pos 14) (pos 300) (pos 0)
+    ∷ commit
+    ∷ []
 
-abbrev at2 : World
-at2 = after run2 (fresh 2)
+abbrev at2 : TwoWorld
+at2 = after run2 (freshWorld twoVersions 2)
 
--- run 3 corrects the first twice and deletes the second; a third key finds no slot
+-- run 3 corrects the first twice and deletes the second
 abbrev run3 : List Call
 run3 = begin ∷ update (pos 1) (pos 14) (pos 110) (pos 0) ∷ update (pos 1) (pos 14) (pos 120) (pos 0) ∷ delete (pos 1) (pos 15) ∷ []
 
-abbrev in3 : World
-in3 = after run3 at2
+abbrev in3 : TwoWorld
+in3 = after {K = twoVersions} run3 at2
 
--- run 4 begins, and takes the slot that run 3 freed
-abbrev in4 : World
-in4 = after (commit ∷ begin ∷ []) in3
+-- run 4 begins
+abbrev in4 : TwoWorld
+in4 = after {K = twoVersions} (commit ∷ begin ∷ []) in3
 
--- the session at 2: slot 1 before run 3, slot 0 after it
-abbrev turns : List Turn
+-- the session at 2: slot 0 before run 3, slot 1 after it
+abbrev turns : List (Turn twoVersions)
 turns =
-    mine 1
+    mine 0
     ∷ other begin
     ∷ other (update (pos 1) (pos 14) (pos 110) (pos 0))
     ∷ other (update (pos 1) (pos 14) (pos 120) (pos 0))
     ∷ other (delete (pos 1) (pos 15))
     ∷ other commit
-    ∷ mine 0
+    ∷ mine 1
     ∷ []
 
 pub record Worked : Type 0 where
-  -- each slot once, none refused, and the rows of database 2
-  pub asked : slotsAsked turns ≡ 1 ∷ 0 ∷ []
-  pub none-refused : map accepted (answersGot 2 turns at2) ≡ true ∷ true ∷ []
-  pub rows : rowsGot (answersGot 2 turns at2) ≡ second-row ∷ first-row ∷ []
-  -- what was followed at version 2, and in run 3
-  pub told : at2 .told ≡ record { origin = 1; opening = []; committed = (second-row ∷ first-row ∷ []) ∷ []; running = second-row ∷ first-row ∷ []; begun = 2; active = false }
-  pub running : in3 .told .running ≡ row (pos 1) (pos 14) (pos 120) (pos 0) ∷ []
-  -- the region's roll-up in the run is its stores' sum at version 2
-  pub region : answerOf (rollUp (pos 2) (pos 1)) in3 ≡ answer.rolled (rolled.Sums 2 (pos 300) (pos 0))
-  -- in run 3 the two databases together hold both keys, and a third is refused as full
-  pub together : bothOf in3 ≡ second-row ∷ first-row ∷ []
-  pub full : answerOf (insert (pos 2) (pos 14) (pos 300) (pos 0)) in3 ≡ answer.placed (placed.Refused 12)
+  -- what was followed: the changes that went in, and the databases that they make
+  pub told : at2 .told ≡ record {
+    origin = 1;
+    opening = [];
+    runs = (gives (pos 1) (pos 14) (pos 100) (pos 0) ∷ gives (pos 1) (pos 15) (pos 200) (pos 0) ∷ []) ∷ [];
+    changes = [];
+    begun = 2;
+    active = false;
+  }
+  pub database : databaseAt (at2 .told) 2 ≡ second-row ∷ first-row ∷ []
+  pub running-then : running (in3 .told) ≡ row (pos 1) (pos 14) (pos 120) (pos 0) ∷ []
+  -- the load and the insert are refused, and no block is loaded
+  pub load-refused : answerOf (loadBlock 1 []) (freshWorld twoVersions 2) ≡ answer.loaded (loaded.Refused 14)
+  pub no-load : NoLoad run2 (freshWorld twoVersions 2)
+  pub change-refused : answerOf {K = twoVersions} (insert (pos 1) (pos 14) (pos 300) (pos 0)) (after {K = twoVersions} (begin ∷ []) at2) ≡ answer.placed (placed.Refused 10)
+  -- version 2 is committed; it is not gone in run 3, and gone in run 4
+  pub committed : Committed (at2 .told) 2
+  pub not-gone : IsGone in3 2 → ⊥
+  pub gone : IsGone in4 2
+  -- the session reads each slot once, in another order than the table's, and gets the rows of database 2
+  pub each : ReadsEach 2 at2 2 turns
+  pub rows : rowsGot (answersGot 2 turns at2) ≡ first-row ∷ second-row ∷ []
+  pub its-rows : Perm (rowsGot (answersGot 2 turns at2)) (databaseAt (at2 .told) 2)
+  -- in run 3 a key read and the region's roll-up at version 2 answer what they did
+  pub key : answerOf {K = twoVersions} (readKey (pos 2) (pos 1) (pos 14)) in3 ≡ answer.seen (seen.Row (pos 1) (pos 14) (pos 100) (pos 0))
+  pub region : answerOf {K = twoVersions} (rollUp (pos 2) (pos 1)) in3 ≡ answer.rolled (rolled.Sums 2 (pos 300) (pos 0))
+  -- there the two databases together hold both keys, and a third is refused as full
+  pub is-full : IsFull 2 in3 (pos 2) (pos 14)
+  pub full : answerOf {K = twoVersions} (insert (pos 2) (pos 14) (pos 300) (pos 0)) in3 ≡ answer.placed (placed.Refused 12)
   -- once run 4 has begun, session 2 is expired, and the third key takes slot 1
-  pub expired-then : answerOf (readSlot (pos 2) 0) in4 ≡ answer.seen (seen.Refused 4)
-  pub reused : answerOf (insert (pos 2) (pos 14) (pos 300) (pos 0)) in4 ≡ answer.placed (placed.At 1)
+  pub expired-then : answerOf {K = twoVersions} (readSlot (pos 2) 0) in4 ≡ answer.seen (seen.Refused 4)
+  pub reused : answerOf {K = twoVersions} (insert (pos 2) (pos 14) (pos 300) (pos 0)) in4 ≡ answer.placed (placed.At 1)
 
 pub worked : Worked
-unfolding all any first lowest some badRecord unborn expired beginRefusal beginAnswer beginRecord commitRefusal commitAnswer commitRecord badTable slotAt putSlot column live lawful unlawful allZeros totalsLawful usedWell wellFormed anyBroken hasKey keySlot longDeleted free freeSlot shown readSlotRefusal readSlotAnswer rollUpRefusal rollUpAnswer changed insertRefusal insertAnswer insertWords updateRefusal updateAnswer updateWords deleteRefusal deleteAnswer deleteWords
+unfolding all any first lowest some badRecord unborn expired beginRefusal beginAnswer beginRecord commitRefusal commitAnswer commitRecord badTable slotAt putSlot column live lawful unlawful allZeros totalsLawful usedWell wellFormed anyBroken hasKey keySlot longDeleted free freeSlot shown readSlotRefusal readSlotAnswer rollUpRefusal rollUpAnswer changed insertRefusal insertAnswer insertWords updateRefusal updateAnswer updateWords deleteRefusal deleteAnswer deleteWords readKeyRefusal readKeyAnswer loadBlockRefusal loadBlockAnswer loadBlockWords
 worked = record {
-  asked = refl;
-  none-refused = refl;
-  rows = refl;
   told = refl;
-  running = refl;
+  database = refl;
+  running-then = refl;
+  load-refused = refl;
+  no-load = (refl, (refl, (refl, (refl, (refl, (refl, tt))))));
+  change-refused = refl;
+  committed = record { from = omega arith; to = omega arith };
+  not-gone = λ h. omega arith;
+  gone = omega arith;
+  each = record {
+    no-load = (refl, (refl, (refl, (refl, (refl, (refl, (refl, tt)))))));
+    each = ∣ L.List·Permᴰ·swap refl refl ∣₁;
+    none-refused = (refl, (refl, tt));
+  };
+  rows = refl;
+  its-rows = ∣ L.List·Permᴰ·swap refl refl ∣₁;
+  key = refl;
   region = refl;
-  together = refl;
+  is-full = (refl, refl);
   full = refl;
   expired-then = refl;
   reused = refl;

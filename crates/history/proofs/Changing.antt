@@ -29,14 +29,14 @@ use Rattle.reads.specs.Table1Laws.{shown-current, shown-deleted, shown-empty}
 use Rattle.changes.specs.Effects.{run-within}
 use Rattle.changes.specs.Accepted.{free-unseen}
 use Rattle.changes.specs.Refused as refused
-use Rattle.changes.specs.Refused.{busy-seen, insert-refused, update-refused, delete-refused}
+use Rattle.changes.specs.Refused.{busy-seen, insert-refused, update-refused, delete-refused, insert-idle, update-idle, delete-idle}
 use Rattle.changes.specs.Outcomes.{insert-refuses, insert-accepts, update-refuses, update-accepts, delete-refuses, delete-accepts}
 use Rattle.changes.specs.Insert.{noSlot}
 use Rattle.calls.specs.Calls as answer
 use Rattle.history.specs.Databases.{holds}
-use Rattle.history.specs.Followed.{current, accepted}
-use Rattle.history.specs.Histories.{World}
-use Rattle.history.specs.Demand.{ChangesKept, Fullness, IsFull}
+use Rattle.history.specs.Followed.{current, running}
+use Rattle.history.specs.Kinds.{accepted}
+use Rattle.history.specs.Demand.{Fullness, IsFull, Changes}
 use Rattle.history.proofs.Databases.{shows}
 use Rattle.history.proofs.Growth.{current-committed}
 use Rattle.history.proofs.Invariant.{current-open}
@@ -44,14 +44,14 @@ use Rattle.history.proofs.Reading.{key-live}
 use Rattle.history.proofs.Fullness.{either, AllOpen, NoRoom, full-room, room-full}
 use Rattle.history.proofs.Recorded.{run-is}
 use Rattle.history.proofs.Table.{viewOf, key-place}
-use Rattle.history.proofs.Steps.{Stands}
+use Rattle.history.proofs.Steps.{TableWorld, Well}
 
 either-shows : (one other : Seen) → shows (either one other) ≡ shows one || shows other
 either-shows (seen.Row p q a b) other = refl
 either-shows seen.NoRow other = refl
 either-shows (seen.Refused n) other = refl
 
-module _ (m : ℕ) (w : World) (i : Stands m w) (a : w .told .active ≡ true) where
+module _ (m : ℕ) (w : TableWorld) (i : Well m w) (a : w .told .active ≡ true) where
   abbrev t : List ℤ
   t = w .state .words
 
@@ -68,7 +68,7 @@ module _ (m : ℕ) (w : World) (i : Stands m w) (a : w .told .active ≡ true) w
       (λ u. let r = run-within v (i .sound .recorded .known) runs u in
       by-test (live x) (λ y. rw (shown-current (runNumber v) x r y, y)) (λ n. rw (shown-deleted (runNumber v) x r (dead-deleted x v u n), n)))
 
-  live-is : (one two : ℤ) → keyLive t one two ≡ holds one two (w .told .running)
+  live-is : (one two : ℤ) → keyLive t one two ≡ holds one two (running (w .told))
   live-is one two =
       sym (slot-live (keyed t one two) (i .sound .whole .formed (keySlot t one two)))
       ∙ rw (run-is (i .sound .recorded)) at (key-live (i .inv) a (key-place (i .sound) one two))
@@ -114,7 +114,7 @@ module _ (m : ℕ) (w : World) (i : Stands m w) (a : w .told .active ≡ true) w
   full-is : (one two : ℤ) → Room one two → IsFull m w one two
   full-is one two = room-full (i .inv) a (current (w .told) ∷ []) current-alone (λ j. free (slotAt t j) v) (λ j l. taken j) one two
 
-pub fullness : (m : ℕ) (w : World) → Stands m w → Fullness m w
+pub fullness : (m : ℕ) (w : TableWorld) → Well m w → Fullness m w
 fullness m w i a one two x y lawful absent =
     let r = runs m w i a in
     let refusal = insert-refused _ _ (i .sound .whole) (i .sound .recorded .known) r one two x y ∙ skip 13 _ lawful ∙ skip 10 _ (live-is m w i a one two ∙ absent) in
@@ -127,20 +127,23 @@ fullness m w i a one two x y lawful absent =
           ∙ done) .answer);
     }
 
-pub changes-kept : (m : ℕ) (w : World) → Stands m w → ChangesKept w
-changes-kept m w i a one two =
-    let live = live-is m w i a one two in
-    let r = runs m w i a in
-    let update = update-refused _ _ (i .sound .whole) (i .sound .recorded .known) r one two in
-    let delete = delete-refused _ _ (i .sound .whole) (i .sound .recorded .known) r one two in
+-- ---- every change, with no run active and during a run
+pub changes-kept : (m : ℕ) (w : TableWorld) → Well m w → (one two : ℤ) → Changes w one two
+changes-kept m w i one two =
+    let sound = i .sound .recorded in
+    let whole = i .sound .whole in
     record {
-      updated = λ x y lawful holds. ap (λ p. accepted (answer.placed p))
-          (update-accepts _ _ one two x y (update x y ∙ skip 13 _ lawful ∙ skip 11 _ (ap not (live ∙ holds)) ∙ done) .answer);
-      unlawful-update = λ x y unlawful. ap answer.placed (update-refuses _ _ one two x y 12 (update x y ∙ hit _ unlawful) .answer);
-      no-update = λ x y lawful holds. ap answer.placed
-          (update-refuses _ _ one two x y 10 (update x y ∙ skip 13 _ lawful ∙ hit _ (ap not (live ∙ holds))) .answer);
-      deleted = λ holds. ap (λ p. accepted (answer.placed p)) (delete-accepts _ _ one two (delete ∙ skip 11 _ (ap not (live ∙ holds)) ∙ done) .answer);
-      no-delete = λ holds. ap answer.placed (delete-refuses _ _ one two 10 (delete ∙ hit _ (ap not (live ∙ holds))) .answer);
-      live-insert = λ x y lawful holds. ap answer.placed
-          (insert-refuses _ _ one two x y 9 (insert-refused _ _ (i .sound .whole) (i .sound .recorded .known) r one two x y ∙ skip 13 _ lawful ∙ hit _ (live ∙ holds)) .answer);
+      insert-idle = λ idle x y. ap answer.placed (insert-refuses _ _ one two x y 7 (insert-idle _ _ (whole .shape) (sound .known) (sound .active ∙ idle) one two x y) .answer);
+      update-idle = λ idle x y. ap answer.placed (update-refuses _ _ one two x y 7 (update-idle _ _ (whole .shape) (sound .known) (sound .active ∙ idle) one two x y) .answer);
+      delete-idle = λ idle. ap answer.placed (delete-refuses _ _ one two 7 (delete-idle _ _ (whole .shape) (sound .known) (sound .active ∙ idle) one two) .answer);
+      insert-unlawful = λ a x y bad. ap answer.placed (insert-refuses _ _ one two x y 12 (insert-refused _ _ whole (sound .known) (runs m w i a) one two x y ∙ hit _ bad) .answer);
+      update-unlawful = λ a x y bad. ap answer.placed (update-refuses _ _ one two x y 12 (update-refused _ _ whole (sound .known) (runs m w i a) one two x y ∙ hit _ bad) .answer);
+      insert-live = λ a x y lawful holds. ap answer.placed
+          (insert-refuses _ _ one two x y 9 (insert-refused _ _ whole (sound .known) (runs m w i a) one two x y ∙ skip 13 _ lawful ∙ hit _ (live-is m w i a one two ∙ holds)) .answer);
+      update-live = λ a x y lawful holds. ap (λ p. accepted (answer.placed p))
+          (update-accepts _ _ one two x y (update-refused _ _ whole (sound .known) (runs m w i a) one two x y ∙ skip 13 _ lawful ∙ skip 11 _ (ap not (live-is m w i a one two ∙ holds)) ∙ done) .answer);
+      update-absent = λ a x y lawful holds. ap answer.placed
+          (update-refuses _ _ one two x y 10 (update-refused _ _ whole (sound .known) (runs m w i a) one two x y ∙ skip 13 _ lawful ∙ hit _ (ap not (live-is m w i a one two ∙ holds))) .answer);
+      delete-live = λ a holds. ap (λ p. accepted (answer.placed p)) (delete-accepts _ _ one two (delete-refused _ _ whole (sound .known) (runs m w i a) one two ∙ skip 11 _ (ap not (live-is m w i a one two ∙ holds)) ∙ done) .answer);
+      delete-absent = λ a holds. ap answer.placed (delete-refuses _ _ one two 10 (delete-refused _ _ whole (sound .known) (runs m w i a) one two ∙ hit _ (ap not (live-is m w i a one two ∙ holds))) .answer);
     }

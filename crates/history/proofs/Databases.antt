@@ -1,19 +1,23 @@
 -- Databases in another order: a permutation of rows holds the same keys, and where no key stands twice it finds the same rows,
 -- rolls up to the same sums, and loses the same row. Each goes by the permutation; a step on one or two rows goes by
--- the tests on them alone. Assumes nothing.
+-- the tests on them alone. And the roll-up of a database is what the library's tally of its rows comes to. Assumes nothing.
 use mathlib.Core.Path.{_≡_, refl, sym, ap, ap₂, _∙_}
-use mathlib.Core.Bool.{Bool, true, false, cond, _&&_, _||_, or-assoc, or-comm}
-use mathlib.Core.List.{[], _∷_, _++_, map, List·Permᴰ, Permᴰ·refl}
+use mathlib.Core.Bool.{Bool, true, false, cond, not, _&&_, _||_, or-assoc, or-comm}
+use mathlib.Core.Logic.{∥∥₁-elim}
+use mathlib.Core.List.{[], _∷_, _++_, map, Perm, List·Permᴰ, Permᴰ·refl}
 use mathlib.Core.List as L
 use Prim.Native.Nat.{suc}
-use lib.IntN.{ℤ, _+ℤ_, +ℤ-comm, +ℤ-assoc}
+use native.Mathlib.Nat.{ℕ-set}
+use lib.IntN.{ℤ, _+ℤ_, +ℤ-comm, +ℤ-assoc, ℤ-set}
+use lib.ListN.{length}
 use Rattle.laws.specs.Tests.{by-test, clash}
-use Rattle.laws.specs.Repeats.{by-perm}
+use Rattle.laws.specs.Repeats.{by-perm, permᴰ-length}
 use Rattle.laws.specs.Order.{eqZ, eqZ-true, eqZ-same}
 use Rattle.reads.specs.declared.Seen.{Seen}
 use Rattle.reads.specs.declared.Seen.the-variants as seen
-use Rattle.reads.specs.RollUp.{Tally, tally, tallied, counted}
-use Rattle.history.specs.Databases.{Row, Database, isKey, holds, NoRepeat, without, found, asSeen, beside}
+use Rattle.reads.specs.declared.Rolled.the-variants.{Sums}
+use Rattle.reads.specs.RollUp.{Tally, tally, counted, sums}
+use Rattle.history.specs.Databases.{Row, Database, isKey, holds, NoRepeat, without, found, asSeen, region, sumOf, rolledUp, beside}
 
 -- ---- tests
 pub neither : (a b : Bool) → a || b ≡ false → (a ≡ false) × (b ≡ false)
@@ -129,23 +133,44 @@ found-perm p q (L.List·Permᴰ·swap {a = a} {b = b} {l = l} e f) n =
 found-perm p q (L.List·Permᴰ·trans x y) n = found-perm p q x n ∙ found-perm p q y (norepeat-perm x n)
 
 -- ---- the same sums
-counted-swap : (a b c d : ℤ) (n : Tally) → counted a b (counted c d n) ≡ counted c d (counted a b n)
-counted-swap a b c d n i = record {
-  count = suc (suc (n .count));
-  first = swap (n .first) c a i;
-  second = swap (n .second) d b i;
-}
+region-perm : (one : ℤ) {d e : Database} → List·Permᴰ d e → List·Permᴰ (region one d) (region one e)
+region-perm one = left-perm (λ r. not (eqZ (r .key1) one)) (region one) refl (λ r d. other-way (eqZ (r .key1) one) (r ∷ region one d) (region one d))
   where
-    swap : (x y z : ℤ) → (x +ℤ y) +ℤ z ≡ (x +ℤ z) +ℤ y
-    swap x y z = +ℤ-assoc x y z ∙ ap (λ s. x +ℤ s) (+ℤ-comm y z) ∙ sym (+ℤ-assoc x z y)
+    other-way : (b : Bool) (x y : Database) → cond b x y ≡ cond (not b) y x
+    other-way true x y = refl
+    other-way false x y = refl
 
-tally-swap : (t u : Bool) (a b c d : ℤ) (n : Tally)
-    → cond t (counted a b (cond u (counted c d n) n)) (cond u (counted c d n) n) ≡ cond u (counted c d (cond t (counted a b n) n)) (cond t (counted a b n) n)
-tally-swap true true a b c d n = counted-swap a b c d n
-tally-swap true false a b c d n = refl
-tally-swap false u a b c d n = refl
+sum-perm : (total : Row → ℤ) {d e : Database} → List·Permᴰ d e → sumOf total d ≡ sumOf total e
+sum-perm total =
+    by-perm (λ d e. sumOf total d ≡ sumOf total e) refl (λ r d e. ap (λ z. total r +ℤ z)) (λ a b d. swap (total a) (total b) (sumOf total d)) (λ d e f. _∙_)
+  where
+    swap : (x y z : ℤ) → x +ℤ (y +ℤ z) ≡ y +ℤ (x +ℤ z)
+    swap x y z = sym (+ℤ-assoc x y z) ∙ ap (λ s. s +ℤ z) (+ℤ-comm x y) ∙ +ℤ-assoc y x z
 
-pub tally-perm : (one : ℤ) {d e : Database} → List·Permᴰ d e → tally one (map asSeen d) ≡ tally one (map asSeen e)
-tally-perm one =
-    by-perm (λ d e. tally one (map asSeen d) ≡ tally one (map asSeen e)) refl (λ r d e. ap (tallied one (asSeen r)))
-    (λ a b d. tally-swap (eqZ (a .key1) one) (eqZ (b .key1) one) (a .first) (a .second) (b .first) (b .second) (tally one (map asSeen d))) (λ d e f. _∙_)
+-- number by number, since a permutation that is only said to be there may show equal numbers
+pub rolled-perm : (one : ℤ) {d e : Database} → Perm d e → rolledUp one d ≡ rolledUp one e
+rolled-perm one {d} {e} p i = Sums (rows i) (sum (λ r. r .total1) i) (sum (λ r. r .total2) i)
+  where
+    rows : length (region one d) ≡ length (region one e)
+    rows = ∥∥₁-elim p (ℕ-set _ _) (λ q. permᴰ-length (region-perm one q))
+
+    sum : (total : Row → ℤ) → sumOf total (region one d) ≡ sumOf total (region one e)
+    sum total = ∥∥₁-elim p (ℤ-set _ _) (λ q. sum-perm total (region-perm one q))
+
+-- ---- the library's tally of a database
+abbrev comeTo : Database → Tally
+comeTo d = record { count = length d; first = sumOf (λ r. r .total1) d; second = sumOf (λ r. r .total2) d }
+
+tally-counts : (one : ℤ) (d : Database) → tally one (map asSeen d) ≡ comeTo (region one d)
+tally-counts one [] = refl
+tally-counts one (r ∷ d) = rw (tally-counts one d) (by-test (eqZ (r .key1) one) (λ y. rw y (one-more (region one d))) (λ n. rw n))
+  where
+    one-more : (e : Database) → counted (r .total1) (r .total2) (comeTo e) ≡ comeTo (r ∷ e)
+    one-more e i = record {
+      count = suc (length e);
+      first = +ℤ-comm (sumOf (λ x. x .total1) e) (r .total1) i;
+      second = +ℤ-comm (sumOf (λ x. x .total2) e) (r .total2) i;
+    }
+
+pub tally-region : (one : ℤ) (d : Database) → sums (tally one (map asSeen d)) ≡ rolledUp one d
+tally-region one d = ap sums (tally-counts one d)

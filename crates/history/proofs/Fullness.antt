@@ -15,8 +15,8 @@ use Rattle.laws.specs.Tests.{by-test, clash, not-yes}
 use Rattle.laws.specs.Repeats.{permᴰ-length}
 use Rattle.calls.specs.Seen.{Seen}
 use Rattle.calls.specs.Seen as seen
-use Rattle.history.specs.Databases.{Database, holds, beside, together, rowsOf, upTo}
-use Rattle.history.specs.Followed.{Followed, current, databaseAt, Committed, Gone}
+use Rattle.history.specs.Databases.{Database, holds, beside, together, allTogether, rowsOf, upTo}
+use Rattle.history.specs.Followed.{Followed, current, databaseAt, running, Committed, Gone}
 use Rattle.history.proofs.Databases.{holds-perm, beside-perm, shows}
 use Rattle.history.proofs.Rows.{rowsFor, front, rows-lack, rows-hold}
 use Rattle.history.proofs.Views.{View, Distinct, Owned, by-row, lacks, holds-own, held-here}
@@ -77,11 +77,7 @@ module _ (f : ℕ → Seen) where
       (λ n. all-counted m (omega (arith, rw y at (count m))) j (omega (arith, eqb-false j m n))))
       (λ n. absurd (omega (arith, rw n at (count m), count-within m)))
 
--- ---- the keys that several databases hold together, and what is shown of a slot at one of several versions
-abbrev pub heldBy : List Database → Database → Database
-heldBy [] running = running
-heldBy (d ∷ ds) running = together d (heldBy ds running)
-
+-- ---- what is shown of a slot at one of several versions
 abbrev pub anyShown : View → List ℕ → ℕ → ℕ → Seen
 anyShown T [] run k = T .shown run k
 anyShown T (s ∷ ss) run k = either (T .shown s k) (anyShown T ss run k)
@@ -119,7 +115,7 @@ pub record NoRoom (T : View) (m : ℕ) (free : ℕ → Bool) (p q : ℤ) : Type 
   pub taken : (j : ℕ) → j < m → free j ≡ false
 
 module _ {n m : ℕ} {T : View} {g : Followed} (i : Inv n m T g) (a : g .active ≡ true) where
-  held-rows : (ss : List ℕ) → AllOpen n g ss → List·Permᴰ (heldBy (map (databaseAt g) ss) (g .running)) (rowsFor (anyShown T ss (suc (current g))) (upTo m))
+  held-rows : (ss : List ℕ) → AllOpen n g ss → List·Permᴰ (allTogether (map (databaseAt g) ss) (running g)) (rowsFor (anyShown T ss (suc (current g))) (upTo m))
   held-rows [] each = Permᴰ·symm (i .top a)
   held-rows (s ∷ ss) each =
       L.List·Permᴰ·trans (together-perm (Permᴰ·symm (i .rows s (each .0) (each .1))) (held-rows ss (each .2)))
@@ -130,7 +126,7 @@ module _ {n m : ℕ} {T : View} {g : Followed} (i : Inv n m T g) (a : g .active 
     sees = anyShown T ss (suc (current g))
 
     abbrev held : Database
-    held = heldBy (map (databaseAt g) ss) (g .running)
+    held = allTogether (map (databaseAt g) ss) (running g)
 
     owned : (k : ℕ) → Owned (T .has k) (sees k)
     owned k = any-owned T ss (suc (current g)) k

@@ -1,15 +1,39 @@
--- What is followed only grows: runs that have begun, databases committed; a committed database is never altered. One lemma for
--- each thing that happens in a history: a change, a begin, a commit, and a run given up. Assumes nothing.
-use mathlib.Core.Path.{_≡_, refl, _∙_}
+-- What is followed only grows: runs that have begun, databases committed; a committed database is never altered, since a run adds
+-- to the end of the log. One lemma for each thing that happens in a history: a change, a begin, a commit, and a run given up. And
+-- a run makes its database of the one before. By induction on the runs. Assumes nothing.
+use mathlib.Core.Path.{_≡_, refl, sym, _∙_}
 use mathlib.Core.Bool.{Bool, false}
-use mathlib.Core.List.{[], _∷_}
-use Prim.Native.Nat.{ℕ, suc, _-_, _≤_}
+use mathlib.Core.List.{List, [], _∷_, _++_}
+use Prim.Native.Nat.{ℕ, zero, suc, _-_, _≤_, _<_}
 use native.Mathlib.Omega.{arith}
-use lib.ListN.{length, length-append, List·getD-append}
+use lib.ListN.{length, length-append, getD}
 use lib.Seq.{getD-append-seam}
-use Rattle.history.specs.Databases.{Database}
-use Rattle.history.specs.Followed.{Followed, current, databaseAt, Committed, runBegun, runCommitted}
+use Rattle.history.specs.Databases.{Database, Change, changed, madeBy}
+use Rattle.history.specs.Followed.{Followed, current, changesOf, afterRuns, databaseAt, running, Committed, withChange, runBegun, runCommitted}
 
+-- ---- the log: what is added at its end leaves what the runs before make; one run more, one change more
+more-runs : (k : ℕ) (runs more : List (List Change)) (d : Database) → k ≤ length runs → afterRuns k (runs ++ more) d ≡ afterRuns k runs d
+more-runs zero runs more d l = refl
+more-runs (suc k) [] more d l = absurd (omega arith)
+more-runs (suc k) (run ∷ runs) more d l = more-runs k runs more (madeBy run d) (omega arith)
+
+one-run : (k : ℕ) (runs : List (List Change)) (d : Database) → k < length runs → afterRuns (suc k) runs d ≡ madeBy (getD runs k []) (afterRuns k runs d)
+one-run k [] d l = absurd (omega arith)
+one-run zero (run ∷ runs) d l = refl
+one-run (suc k) (run ∷ runs) d l = one-run k runs (madeBy run d) (omega arith)
+
+pub made-last : (l : List Change) (c : Change) (d : Database) → madeBy (l ++ (c ∷ [])) d ≡ changed c (madeBy l d)
+made-last [] c d = refl
+made-last (x ∷ l) c d = made-last l c (changed x d)
+
+-- a run's changes make its database of the one before
+pub run-made : (g : Followed) (v : ℕ) → Committed g v → Committed g (suc v) → databaseAt g (suc v) ≡ madeBy (changesOf g (suc v)) (databaseAt g v)
+run-made g v c d =
+    let up : suc v - g .origin ≡ suc (v - g .origin) = omega (arith, c .from) in
+    let place : suc v - suc (g .origin) ≡ v - g .origin = omega arith in
+    rw (up, place) (one-run (v - g .origin) (g .runs) (g .opening) (omega (arith, c .from, d .to)))
+
+-- ---- growth
 pub record Grows (g g′ : Followed) : Type 0 where
   pub origin : g′ .origin ≡ g .origin
   pub begun : g .begun ≤ g′ .begun
@@ -32,38 +56,38 @@ grows-twice x y = record {
 pub current-committed : (g : Followed) → Committed g (current g)
 current-committed g = record { from = omega arith; to = omega arith }
 
--- ---- what leaves the databases and the runs begun: a change, and a run given up, which leaves the current database running
-pub standing-grows : (g : Followed) (d : Database) (a : Bool)
-    → Grows g (record { origin = g .origin; opening = g .opening; committed = g .committed; running = d; begun = g .begun; active = a })
-standing-grows g d a = record { origin = refl; begun = omega arith; current = omega arith; databases = λ s c. refl }
+-- ---- what leaves the runs that were committed and those that have begun: a change, and a run given up, whose changes are dropped
+pub standing-grows : (g : Followed) (l : List Change) (a : Bool)
+    → Grows g (record { origin = g .origin; opening = g .opening; runs = g .runs; changes = l; begun = g .begun; active = a })
+standing-grows g l a = record { origin = refl; begun = omega arith; current = omega arith; databases = λ s c. refl }
 
 abbrev pub runUndone : Followed → Followed
-runUndone g = record {
-  origin = g .origin;
-  opening = g .opening;
-  committed = g .committed;
-  running = databaseAt g (current g);
-  begun = g .begun;
-  active = false;
-}
+runUndone g = record { origin = g .origin; opening = g .opening; runs = g .runs; changes = []; begun = g .begun; active = false }
+
+-- one change more makes one more of the running database
+pub running-changed : (g : Followed) (c : Change) → running (withChange c g) ≡ changed c (running g)
+running-changed g c = made-last (g .changes) c (databaseAt g (current g))
 
 -- a begin is of the next run
 pub begin-grows : (g : Followed) → g .begun ≤ suc (current g) → Grows g (runBegun g)
 begin-grows g h = record { origin = refl; begun = h; current = omega arith; databases = λ s c. refl }
 
--- a commit adds a database at the end
+-- a commit adds a run at the end, and its database is the running one
 pub counted : (g : Followed) → current (runCommitted g) ≡ suc (current g)
-counted g = omega (arith, length-append (g .committed) (g .running ∷ []))
+counted g = omega (arith, length-append (g .runs) (g .changes ∷ []))
 
 pub commit-grows : (g : Followed) → Grows g (runCommitted g)
 commit-grows g = record {
   origin = refl;
   begun = omega arith;
   current = omega (arith, counted g);
-  databases = λ s c. List·getD-append (g .opening ∷ g .committed) (g .running ∷ []) [] (s - g .origin) (omega (arith, c .from, c .to));
+  databases = λ s c. more-runs (s - g .origin) (g .runs) (g .changes ∷ []) (g .opening) (omega (arith, c .from, c .to));
 }
 
-pub last-database : (g : Followed) → databaseAt (runCommitted g) (suc (current g)) ≡ g .running
+pub last-database : (g : Followed) → databaseAt (runCommitted g) (suc (current g)) ≡ running g
 last-database g =
-    let e : suc (current g) - g .origin ≡ length (g .opening ∷ g .committed) = omega arith in
-    rw e (getD-append-seam (g .opening ∷ g .committed) (g .running) [] [])
+    let up : suc (current g) - g .origin ≡ suc (length (g .runs)) = omega arith in
+    let all : current g - g .origin ≡ length (g .runs) = omega arith in
+    rw (up, all)
+    (one-run (length (g .runs)) (g .runs ++ (g .changes ∷ [])) (g .opening) (omega (arith, length-append (g .runs) (g .changes ∷ [])))
+    ∙ rw (getD-append-seam (g .runs) (g .changes) [] [], more-runs (length (g .runs)) (g .runs) (g .changes ∷ []) (g .opening) (omega arith)))

@@ -3,12 +3,12 @@
 -- running database. It holds at a start. What keeps it is a step, and a step after a step is one. Assumes nothing.
 use mathlib.Core.Path.{_≡_, refl, _∙_}
 use mathlib.Core.Bool.{true, false}
-use mathlib.Core.List.{List·Permᴰ}
+use mathlib.Core.List.{[], List·Permᴰ}
 use Prim.Native.Nat.{ℕ, suc, _-_, _≤_}
 use native.Mathlib.Omega.{arith}
 use Rattle.laws.specs.Tests.{clash}
 use Rattle.history.specs.Databases.{Database}
-use Rattle.history.specs.Followed.{Followed, starting, current, databaseAt, Committed, Gone}
+use Rattle.history.specs.Followed.{Followed, starting, current, databaseAt, running, Committed, Gone}
 use Rattle.history.proofs.Rows.{rows-same}
 use Rattle.history.proofs.Views.{View, Distinct, rowsAt}
 use Rattle.history.proofs.Growth.{Grows, grown, grows-twice, standing-grows}
@@ -20,9 +20,10 @@ pub record Inv (n m : ℕ) (T : View) (g : Followed) : Type 0 where
   pub low : current g ≤ g .begun
   pub high : g .begun ≤ suc (current g)
   pub in-run : g .active ≡ true → g .begun ≡ suc (current g)
-  pub settled : g .active ≡ false → g .running ≡ databaseAt g (current g)
+  -- with no run active, no change is left over
+  pub settled : g .active ≡ false → g .changes ≡ []
   pub rows : (s : ℕ) → Committed g s → (Gone n g s → ⊥) → List·Permᴰ (rowsAt T s m) (databaseAt g s)
-  pub top : g .active ≡ true → List·Permᴰ (rowsAt T (suc (current g)) m) (g .running)
+  pub top : g .active ≡ true → List·Permᴰ (rowsAt T (suc (current g)) m) (running g)
 
 -- current is never gone
 pub current-open : {n m : ℕ} {T : View} {g : Followed} → Inv n m T g → Gone n g (current g) → ⊥
@@ -50,7 +51,7 @@ start-inv {n} {m} {T} origin d many distinct shown = record {
   low = omega arith;
   high = omega arith;
   in-run = λ a. clash a refl;
-  settled = λ a. let e : current (starting origin d) - origin ≡ 0 = omega arith in rw e;
+  settled = λ a. refl;
   rows = λ s c kept. let e : s ≡ origin = omega arith in let z : origin - origin ≡ 0 = omega arith in rw (e, z) shown;
   top = λ a. clash a refl;
 }
@@ -58,7 +59,7 @@ start-inv {n} {m} {T} origin d many distinct shown = record {
 -- ---- a call that does nothing
 module _ {n m : ℕ} {T : View} {g : Followed} (i : Inv n m T g) where
   pub same-step : Step n m T g T g
-  same-step = record { inv = i; grows = standing-grows g (g .running) (g .active); stays = λ s c kept k. refl }
+  same-step = record { inv = i; grows = standing-grows g (g .changes) (g .active); stays = λ s c kept k. refl }
 
   -- where the slots show the same at the open versions, so do the rows
   pub rows-stay : (T′ : View) → ((s : ℕ) → Committed g s → (Gone n g s → ⊥) → (k : ℕ) → T′ .shown s k ≡ T .shown s k)

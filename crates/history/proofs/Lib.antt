@@ -7,11 +7,13 @@ pub mod Written
 pub mod Turns
 pub mod Reading
 pub mod Fullness
+pub mod Argument
+pub mod Once
+pub mod Promises
 pub mod Recorded
 pub mod Table
 pub mod Steps
 pub mod Answers
 pub mod Changing
-pub mod Once
 pub mod Runs
 pub mod Demand3

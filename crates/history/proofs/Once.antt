@@ -1,16 +1,15 @@
--- No key stands twice in a database that is followed, from `hear` alone: an insert or an update puts its row in place of what the
--- key had, and what is left without a key has no key that was not there. Assumes nothing.
-use mathlib.Core.Path.{_≡_, refl, ap₂}
-use mathlib.Core.Bool.{Bool, true, false, _||_}
-use mathlib.Core.List.{List, [], _∷_, _++_}
-use Prim.Native.Nat.{ℕ, zero, suc}
+-- No key stands twice in a database that is followed, from the log alone: a change puts its row in place of what the key had, or
+-- takes it out, and what is left without a key has no key that was not there. So by changes, by runs, and by what is heard of
+-- every call no key stands twice. Assumes nothing.
+use mathlib.Core.Path.{_≡_, refl, ap₂, _∙_}
+use mathlib.Core.Bool.{false, _||_}
+use mathlib.Core.List.{List, [], _∷_}
+use Prim.Native.Nat.{ℕ, zero, suc, _-_}
 use lib.IntN.{ℤ}
-use lib.ListN.{getD}
 use Rattle.laws.specs.Tests.{by-test}
-use Rattle.calls.specs.Calls.{Call, openSession, begin, commit, readSlot, readKey, rollUp, insert, update, delete, saveHeader, saveBlock, loadHeader, loadBlock}
-use Rattle.history.specs.Databases.{Database, isKey, holds, NoRepeat, without}
-use Rattle.history.specs.Followed.{Followed, starting, accepted, hear, followed}
-use Rattle.history.specs.Histories.{World, answerOf, next, after}
+use Rattle.history.specs.Databases.{Database, isKey, holds, NoRepeat, without, Change, gives, takesOut, changed, madeBy}
+use Rattle.history.specs.Followed.{Followed, current, afterRuns, databaseAt, running, Heard, wentIn, beganRun, committedRun, loadedBlock, withChanges, withChange, hear}
+use Rattle.history.specs.Kinds.{Kind, World, heardOf, next, after}
 use Rattle.history.proofs.Databases.{neither}
 
 -- ---- what is left without a key
@@ -30,43 +29,39 @@ without-once p q (r ∷ d) once =
     by-test (isKey p q r) (λ y. rw y (without-once p q d (once .1)))
     (λ n. rw n (lacks-still p q (r .key1) (r .key2) d (once .0), without-once p q d (once .1)))
 
--- ---- every database that is followed
-pub record Once (g : Followed) : Type 0 where
-  pub databases : (i : ℕ) → NoRepeat (getD (g .opening ∷ g .committed) i [])
-  pub running : NoRepeat (g .running)
+-- ---- what changes and runs leave
+changed-once : (c : Change) (d : Database) → NoRepeat d → NoRepeat (changed c d)
+changed-once (gives p q a b) d once = (lacks-it p q d, without-once p q d once)
+changed-once (takesOut p q) d once = without-once p q d once
 
-pub start-once : (version : ℕ) (d : Database) → NoRepeat d → Once (starting version d)
-start-once version d once = record { databases = elim [ zero ↦ once | suc i ↦ tt ]; running = once }
+pub made-once : (l : List Change) (d : Database) → NoRepeat d → NoRepeat (madeBy l d)
+made-once [] d once = once
+made-once (c ∷ l) d once = made-once l (changed c d) (changed-once c d once)
 
-one-more : (l : List Database) (d : Database) → ((i : ℕ) → NoRepeat (getD l i [])) → NoRepeat d → (i : ℕ) → NoRepeat (getD (l ++ (d ∷ [])) i [])
-one-more [] d each once zero = once
-one-more [] d each once (suc i) = tt
-one-more (e ∷ l) d each once zero = each zero
-one-more (e ∷ l) d each once (suc i) = one-more l d (λ j. each (suc j)) once i
+runs-once : (k : ℕ) (runs : List (List Change)) (d : Database) → NoRepeat d → NoRepeat (afterRuns k runs d)
+runs-once zero runs d once = once
+runs-once (suc k) [] d once = once
+runs-once (suc k) (run ∷ runs) d once = runs-once k runs (madeBy run d) (made-once run d once)
 
-module _ (g : Followed) (x : Once g) where
-  put-once : (p q a b : ℤ) → Once (hear (insert p q a b) g)
-  put-once p q a b = record { databases = x .databases; running = (lacks-it p q (g .running), without-once p q (g .running) (x .running)) }
+-- ---- so in every database that is followed, if it is so in the first
+module _ (g : Followed) (once : NoRepeat (g .opening)) where
+  pub database-once : (s : ℕ) → NoRepeat (databaseAt g s)
+  database-once s = runs-once (s - g .origin) (g .runs) (g .opening) once
 
-  hear-once : (call : Call) → Once (hear call g)
-  hear-once openSession = x
-  hear-once begin = record { databases = x .databases; running = x .running }
-  hear-once commit = record { databases = one-more (g .opening ∷ g .committed) (g .running) (x .databases) (x .running); running = x .running }
-  hear-once (readSlot s k) = x
-  hear-once (readKey s one two) = x
-  hear-once (rollUp s one) = x
-  hear-once (insert one two a b) = put-once one two a b
-  hear-once (update one two a b) = put-once one two a b
-  hear-once (delete one two) = record { databases = x .databases; running = without-once one two (g .running) (x .running) }
-  hear-once saveHeader = x
-  hear-once (saveBlock k) = x
-  hear-once (loadHeader b) = x
-  hear-once (loadBlock k b) = x
+  pub running-once : NoRepeat (running g)
+  running-once = made-once (g .changes) _ (database-once (current g))
 
-  followed-once : (b : Bool) (call : Call) → Once (followed b call g)
-  followed-once true call = hear-once call
-  followed-once false call = x
+-- which stays the first
+opening-stays : (l : List Change) (g : Followed) → withChanges l g .opening ≡ g .opening
+opening-stays [] g = refl
+opening-stays (c ∷ l) g = opening-stays l (withChange c g)
 
-pub after-once : (h : List Call) (w : World) → Once (w .told) → Once (after h w .told)
-after-once [] w x = x
-after-once (call ∷ h) w x = after-once h (next call w) (followed-once (w .told) x (accepted (answerOf call w)) call)
+heard-opening : (x : Heard) (g : Followed) → hear x g .opening ≡ g .opening
+heard-opening (wentIn l) g = opening-stays l g
+heard-opening beganRun g = refl
+heard-opening committedRun g = refl
+heard-opening loadedBlock g = refl
+
+pub opening-after : {K : Kind} (h : List (K .Call)) (w : World K) → after h w .told .opening ≡ w .told .opening
+opening-after [] w = refl
+opening-after (call ∷ h) w = opening-after h (next call w) ∙ heard-opening (heardOf call w) (w .told)

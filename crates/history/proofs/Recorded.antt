@@ -15,9 +15,9 @@ use Rattle.version.specs.RecordLaws.{fresh-sound}
 use Rattle.version.specs.Sessions.{unborn, expired}
 use Rattle.version.specs.SessionLaws.{born, expires}
 use Rattle.version.specs.Runs.{beginRefusal, begunFrom, commitRefusal, committedFrom}
-use Rattle.version.specs.RunLaws.{can-begin, can-commit, begun-sound, committed-sound}
-use Rattle.history.specs.Databases.{Database}
-use Rattle.history.specs.Followed.{Followed, start, current, Committed, Gone, withRunning, runBegun, runCommitted}
+use Rattle.version.specs.RunLaws.{can-commit, begun-sound, committed-sound}
+use Rattle.history.specs.Databases.{Change}
+use Rattle.history.specs.Followed.{Followed, freshStart, current, Committed, Gone, withChange, runBegun, runCommitted}
 use Rattle.history.proofs.Growth.{counted}
 
 pub record Recorded (n : ℕ) (v : Version) (g : Followed) : Type 0 where
@@ -42,32 +42,28 @@ module _ {n : ℕ} {v : Version} {g : Followed} (x : Recorded n v g) where
     pub is-kept : (Gone n g s → ⊥) → expired v (pos s) ≡ false
     is-kept still = x .expiry s c ∙ lt-leb (s + n) (g .begun) (omega arith)
 
-  pub change-recorded : (d : Database) → Recorded n v (withRunning g d)
-  change-recorded d = record {
+  pub change-recorded : (c : Change) → Recorded n v (withChange c g)
+  change-recorded c = record {
     known = x .known;
     origin = x .origin;
     version = x .version;
     active = x .active;
-    expiry = λ s c. x .expiry s (record { from = c .from; to = c .to });
+    expiry = λ s h. x .expiry s (record { from = h .from; to = h .to });
   }
 
 -- ---- the record of two versions
-pub fresh-recorded : Recorded 2 freshRecord start
+pub fresh-recorded : Recorded 2 freshRecord freshStart
 fresh-recorded = record { known = fresh-sound; origin = omega arith; version = refl; active = refl; expiry = λ s c. expires freshRecord 1 s refl (omega arith) }
 
 module _ {v : Version} {g : Followed} (x : Recorded 2 v g) where
-  module _ (h : beginRefusal v ≡ 0) where
-    pub begin-idle : g .active ≡ false
-    begin-idle = sym (x .active) ∙ can-begin v h .idle
-
-    pub begin-recorded : Recorded 2 (begunFrom v) (runBegun g)
-    begin-recorded = record {
-      known = begun-sound v h;
-      origin = x .origin;
-      version = x .version;
-      active = refl;
-      expiry = λ s c. expires (begunFrom v) (current g) s (x .version) (omega (arith, x .origin));
-    }
+  pub begin-recorded : beginRefusal v ≡ 0 → Recorded 2 (begunFrom v) (runBegun g)
+  begin-recorded h = record {
+    known = begun-sound v h;
+    origin = x .origin;
+    version = x .version;
+    active = refl;
+    expiry = λ s c. expires (begunFrom v) (current g) s (x .version) (omega (arith, x .origin));
+  }
 
   module _ (h : commitRefusal v ≡ 0) where
     pub commit-runs : g .active ≡ true

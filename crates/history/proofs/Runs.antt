@@ -13,12 +13,11 @@ use Rattle.version.specs.RunLaws.{open-answers, begin-left, begin-accepts, begi
 use Rattle.calls.specs.Numbered.{Number}
 use Rattle.calls.specs.Calls as answer
 use Rattle.history.specs.Followed.{current}
-use Rattle.history.specs.Histories.{World}
 use Rattle.history.specs.Demand.{Runs}
 use Rattle.history.proofs.Recorded.{run-is}
-use Rattle.history.proofs.Steps.{Stands}
+use Rattle.history.proofs.Steps.{TableWorld, Well}
 
-pub runs : (m : ℕ) (w : World) → Stands m w → Runs w
+pub runs : (m : ℕ) (w : TableWorld) → Well m w → Runs w
 runs m w i =
     let v = w .state .version in
     let x = i .sound .recorded in

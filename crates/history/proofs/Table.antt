@@ -28,9 +28,9 @@ use Rattle.reads.specs.Table1.{shown}
 use Rattle.reads.specs.Table1Laws.{shown-empty}
 use Rattle.reads.specs.ShownLaws.{shown-own, shown-later}
 use Rattle.changes.specs.Whole.{Whole, Wrote, written-slot, other-slot, whole-after}
-use Rattle.history.specs.Databases.{Database}
-use Rattle.history.specs.Followed.{Followed, start, current, withRunning, runBegun, runCommitted}
-use Rattle.history.specs.Histories.{Size}
+use Rattle.history.specs.Databases.{Change}
+use Rattle.history.specs.Followed.{Followed, freshStart, current, withChange, runBegun, runCommitted}
+use Rattle.history.specs.Kinds.{Size}
 use Rattle.history.proofs.Views.{View, Owned, Place, here, nowhere, rowsAt}
 use Rattle.history.proofs.Invariant.{Inv, start-inv}
 use Rattle.history.proofs.Written.{Written}
@@ -55,7 +55,7 @@ fresh-rows : (n m s : ℕ) → rowsAt (viewOf (freshTable n)) s m ≡ []
 fresh-rows n zero s = refl
 fresh-rows n (suc m) s = rw (fresh-slot n m, shown-empty (pos s)) (fresh-rows n m s)
 
-pub fresh-table : (m : ℕ) → Size m → Sound m (freshTable m) freshRecord start
+pub fresh-table : (m : ℕ) → Size m → Sound m (freshTable m) freshRecord freshStart
 fresh-table m size = record {
   size = fresh-slots m;
   whole = record {
@@ -65,7 +65,7 @@ fresh-table m size = record {
   recorded = fresh-recorded;
 }
 
-pub fresh-inv : (m : ℕ) → Inv 2 m (viewOf (freshTable m)) start
+pub fresh-inv : (m : ℕ) → Inv 2 m (viewOf (freshTable m)) freshStart
 fresh-inv m = start-inv 1 [] (omega arith) (record { slot = λ i j one two hi hj. clash hi (rw (fresh-slot m i) (empty-keyless one two)) }) (rw (fresh-rows m m 1) L.List·Permᴰ·nil)
 
 module _ {m : ℕ} {t : List ℤ} {v : Version} {g : Followed} (x : Sound m t v g) where
@@ -95,11 +95,11 @@ module _ {m : ℕ} {t : List ℤ} {v : Version} {g : Followed} (x : Sound m t v 
           (λ y. let z = has-key (w .slot) p q (rw written at h) in (sym (z .key1) ∙ y .key1, sym (z .key2) ∙ y .key2)) (w .effect .key);
     }
 
-    pub change-sound : (d : Database) → Sound m t′ v (withRunning g d)
-    change-sound d = record {
+    pub change-sound : (c : Change) → Sound m t′ v (withChange c g)
+    change-sound c = record {
       size = rw (w .words, put-length t k (w .slot)) (x .size);
       whole = whole-after t v one two after k t′ (x .whole) w;
-      recorded = change-recorded (x .recorded) d;
+      recorded = change-recorded (x .recorded) c;
     }
 
   -- ---- begin and commit write no slot, and the last run is no earlier after them

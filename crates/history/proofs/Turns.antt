@@ -1,7 +1,7 @@
 -- Begin, commit, and a run given up are steps. Begin and commit write no slot: at a begin the run's number shows what current
 -- shows, whose rows are the current database, which is the running one; at a commit that number becomes current. A run given up
 -- leaves what the open versions show, and its number has begun. Assumes nothing.
-use mathlib.Core.Path.{_≡_, refl, sym}
+use mathlib.Core.Path.{_≡_, refl}
 use mathlib.Core.Bool.{true, false}
 use Prim.Native.Nat.{ℕ, suc}
 use native.Mathlib.Omega.{arith}
@@ -16,8 +16,8 @@ use Rattle.history.proofs.Growth.{current-committed, standing-grows, ru
 use Rattle.history.proofs.Invariant.{Inv, current-open, Step, rows-stay}
 
 module _ {n m : ℕ} {T : View} {g : Followed} (i : Inv n m T g) where
-  pub begin-step : g .active ≡ false → ((k : ℕ) → T .shown (suc (current g)) k ≡ T .shown (current g) k) → Step n m T g T (runBegun g)
-  begin-step idle above = record {
+  pub begin-step : ((k : ℕ) → T .shown (suc (current g)) k ≡ T .shown (current g) k) → Step n m T g T (runBegun g)
+  begin-step above = record {
     inv = record {
       many = i .many;
       distinct = i .distinct;
@@ -26,7 +26,7 @@ module _ {n m : ℕ} {T : View} {g : Followed} (i : Inv n m T g) where
       in-run = λ a. refl;
       settled = λ no-run. clash refl no-run;
       rows = λ s c kept. i .rows s (record { from = c .from; to = c .to }) (λ h. kept (omega (arith, i .high)));
-      top = λ a. rw (rows-same (T .shown (current g)) (T .shown (suc (current g))) m (λ j l. above j), i .settled idle)
+      top = λ a. rw (rows-same (T .shown (current g)) (T .shown (suc (current g))) m (λ j l. above j))
           (i .rows (current g) (current-committed g) (current-open i));
     };
     grows = begin-grows g (i .high);
@@ -41,7 +41,7 @@ module _ {n m : ℕ} {T : View} {g : Followed} (i : Inv n m T g) where
       low = omega (arith, counted g, i .in-run a);
       high = omega (arith, counted g, i .in-run a);
       in-run = λ b. clash b refl;
-      settled = λ idle. rw (counted g) (sym (last-database g));
+      settled = λ idle. refl;
       rows = λ s c kept. by-test (eqb s (suc (current g)))
           (λ y. let e : s ≡ suc (current g) = eqb-true s (suc (current g)) y in rw (e, last-database g) (i .top a))
           (λ ne. let d : Committed g s = record { from = c .from; to = omega (arith, c .to, counted g, eqb-false s (suc (current g)) ne) } in

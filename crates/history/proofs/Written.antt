@@ -13,12 +13,12 @@ use Rattle.laws.specs.Tests.{by-test, clash}
 use Rattle.calls.specs.Seen.{Seen}
 use Rattle.calls.specs.Seen as seen
 use Rattle.changes.specs.Effects.{Own}
-use Rattle.history.specs.Databases.{Database, row, without, rowsOf, upTo}
-use Rattle.history.specs.Followed.{Followed, current, Committed, Gone, withRunning}
+use Rattle.history.specs.Databases.{Database, row, without, Change, changed, rowsOf, upTo}
+use Rattle.history.specs.Followed.{Followed, current, running, Committed, Gone, withChange}
 use Rattle.history.proofs.Databases.{without-absent, without-perm, is-key}
 use Rattle.history.proofs.Rows.{rowsFor, hiding, focus, rows-same}
 use Rattle.history.proofs.Views.{View, rowsAt, rest-lacks}
-use Rattle.history.proofs.Growth.{standing-grows}
+use Rattle.history.proofs.Growth.{standing-grows, running-changed}
 use Rattle.history.proofs.Invariant.{Inv, Step, rows-stay}
 
 -- a change of the key that is to show `after` at the run's number writes slot k
@@ -69,21 +69,21 @@ module _ {n m : ℕ} {T : View} {g : Followed} (i : Inv n m T g) (a : g .active 
   abbrev rest : Database
   rest = rowsFor (hiding k sees) (upTo m)
 
-  others : List·Permᴰ rest (without one two (g .running))
+  others : List·Permᴰ rest (without one two (running g))
   others =
       let e : without one two (rowsOf (sees k) ++ rest) ≡ rest =
       own-gone one two (sees k) rest (w .before) ∙ without-absent one two rest (rest-lacks (i .distinct) sees (T .owned (suc (current g))) k m one two (w .alone)) in
       rw e at (without-perm one two (L.List·Permᴰ·trans (Permᴰ·symm (focus sees k m (w .place))) (i .top a)))
 
-  running-rows : List·Permᴰ (rowsAt T′ (suc (current g)) m) (rowsOf after ++ without one two (g .running))
+  running-rows : List·Permᴰ (rowsAt T′ (suc (current g)) m) (rowsOf after ++ without one two (running g))
   running-rows =
       let sees′ = T′ .shown (suc (current g)) in
       let same : rowsFor (hiding k sees′) (upTo m) ≡ rest = rows-same (hiding k sees) (hiding k sees′) m
       (λ j l. by-test (eqb j k) (λ y. rw y refl) (λ ne. rw (ne, w .others j (eqb-false j k ne) (suc (current g))))) in
       L.List·Permᴰ·trans (rw (w .now, same) at (focus sees′ k m (w .place))) (Permᴰ·append-left (rowsOf after) others)
 
-  pub written-step : Step n m T g T′ (withRunning g (rowsOf after ++ without one two (g .running)))
-  written-step = record {
+  pub written-step : (c : Change) → changed c (running g) ≡ rowsOf after ++ without one two (running g) → Step n m T g T′ (withChange c g)
+  written-step c e = record {
     inv = record {
       many = i .many;
       distinct = record { slot = distinct-after };
@@ -92,7 +92,7 @@ module _ {n m : ℕ} {T : View} {g : Followed} (i : Inv n m T g) (a : g .active 
       in-run = i .in-run;
       settled = λ idle. clash a idle;
       rows = λ s c. rows-stay i T′ slots-stay s (record { from = c .from; to = c .to });
-      top = λ b. running-rows;
+      top = λ b. rw (running-changed g c, e) running-rows;
     };
     grows = standing-grows g _ _;
     stays = slots-stay;

@@ -1,27 +1,29 @@
--- A database: keys with totals, no key twice. What a change makes of one, what a read of one answers. No table word is read
--- here. Assumes nothing.
+-- A database: keys with totals, no key twice. What a change makes of one, what a read of one answers, and the keys that several
+-- hold together. No table word is read here. Assumes nothing.
 use mathlib.Core.Path.{_≡_}
 use mathlib.Core.Bool.{Bool, false, cond, _&&_, _||_}
-use mathlib.Core.List.{List, [], _∷_, _++_, map}
+use mathlib.Core.List.{List, [], _∷_, _++_}
 use Prim.Native.Nat.{ℕ, zero, suc}
-use lib.IntN.{ℤ}
+use lib.IntN.{ℤ, pos, _+ℤ_}
+use lib.ListN.{length}
 use Rattle.calls.specs.Seen.{Seen}
 use Rattle.calls.specs.Seen as seen
 use Rattle.calls.specs.Rolled.{Rolled}
-use Rattle.calls.specs.Terms.{eqZ, tally, sums}
+use Rattle.calls.specs.Rolled as rolled
+use Rattle.calls.specs.Terms.{eqZ}
 
 -- a row: a key of two words, and two totals
 pub record Row : Type 0 where
   pub key1 : ℤ
   pub key2 : ℤ
-  pub first : ℤ
-  pub second : ℤ
+  pub total1 : ℤ
+  pub total2 : ℤ
 
 abbrev pub Database : Type 0
 Database = List Row
 
 abbrev pub row : ℤ → ℤ → ℤ → ℤ → Row
-row one two a b = record { key1 = one; key2 = two; first = a; second = b }
+row one two a b = record { key1 = one; key2 = two; total1 = a; total2 = b }
 
 -- the row has that key
 abbrev pub isKey : ℤ → ℤ → Row → Bool
@@ -37,17 +39,30 @@ abbrev pub NoRepeat : Database → Type 0
 NoRepeat [] = Unit {0}
 NoRepeat (r ∷ d) = (holds (r .key1) (r .key2) d ≡ false) × NoRepeat d
 
--- ---- what a change leaves: an insert and an update put the row in place of what the key had; a delete takes it out
+-- ---- changes
+-- the rows of other keys
 abbrev pub without : ℤ → ℤ → Database → Database
 without one two [] = []
 without one two (r ∷ d) = cond (isKey one two r) (without one two d) (r ∷ without one two d)
 
-abbrev pub placed : ℤ → ℤ → ℤ → ℤ → Database → Database
-placed one two a b d = row one two a b ∷ without one two d
+-- a key is given two totals, or is taken out
+pub data Change : Type 0 where
+  gives : ℤ → ℤ → ℤ → ℤ → Change
+  takesOut : ℤ → ℤ → Change
+
+-- what a change leaves: the row in place of what the key had, or the rows of the other keys
+abbrev pub changed : Change → Database → Database
+changed (gives one two a b) d = row one two a b ∷ without one two d
+changed (takesOut one two) d = without one two d
+
+-- what several leave, made one by one
+abbrev pub madeBy : List Change → Database → Database
+madeBy [] d = d
+madeBy (c ∷ changes) d = madeBy changes (changed c d)
 
 -- ---- what a read answers
 abbrev pub asSeen : Row → Seen
-asSeen r = seen.Row (r .key1) (r .key2) (r .first) (r .second)
+asSeen r = seen.Row (r .key1) (r .key2) (r .total1) (r .total2)
 
 -- the row of a key, or no row
 abbrev pub found : ℤ → ℤ → Database → Seen
@@ -60,11 +75,19 @@ IsOf d (seen.Row one two a b) = found one two d ≡ seen.Row one two a b
 IsOf d seen.NoRow = Unit {0}
 IsOf d (seen.Refused n) = ⊥
 
--- the count of the rows with a first key word and the sums of both totals
-abbrev pub rolledUp : ℤ → Database → Rolled
-rolledUp one d = sums (tally one (map asSeen d))
+-- ---- the roll-up of a region: how many rows have the first key word, and the sum of each total over them
+abbrev pub region : ℤ → Database → Database
+region one [] = []
+region one (r ∷ d) = cond (eqZ (r .key1) one) (r ∷ region one d) (region one d)
 
--- ---- the rows of what reads answer, and the numbers of slots
+abbrev pub sumOf : (Row → ℤ) → Database → ℤ
+sumOf total [] = pos 0
+sumOf total (r ∷ d) = total r +ℤ sumOf total d
+
+abbrev pub rolledUp : ℤ → Database → Rolled
+rolledUp one d = rolled.Sums (length (region one d)) (sumOf (λ r. r .total1) (region one d)) (sumOf (λ r. r .total2) (region one d))
+
+-- ---- the rows of what a read answers, and the numbers of slots
 abbrev pub rowsOf : Seen → Database
 rowsOf (seen.Row one two a b) = row one two a b ∷ []
 rowsOf seen.NoRow = []
@@ -74,10 +97,14 @@ abbrev pub upTo : ℕ → List ℕ
 upTo zero = []
 upTo (suc m) = m ∷ upTo m
 
--- ---- the keys that two databases hold together, each once: those of the first, and those that the second has beside
+-- ---- the keys that databases hold together, each once: those of one, and those that the others have beside
 abbrev pub beside : Database → Database → Database
 beside a [] = []
 beside a (r ∷ b) = cond (holds (r .key1) (r .key2) a) (beside a b) (r ∷ beside a b)
 
 abbrev pub together : Database → Database → Database
 together a b = a ++ beside a b
+
+abbrev pub allTogether : List Database → Database → Database
+allTogether [] last = last
+allTogether (d ∷ ds) last = together d (allTogether ds last)

@@ -1,43 +1,55 @@
--- What is followed of a history: of each call, only its arguments and whether it was accepted, never the table. The databases
--- committed so far, from the version that the history starts at, the running one, and the runs that have begun. Assumes nothing.
+-- What is followed of a history: a log of the changes that went in, run by run, and never the table. A database is what the log
+-- makes of the one that the history starts with: database v is what the changes of the runs up to commit v leave. Assumes nothing.
 use mathlib.Core.Bool.{Bool, true, false}
 use mathlib.Core.List.{List, [], _∷_, _++_}
-use Prim.Native.Nat.{ℕ, suc, _+_, _-_, _≤_}
-use lib.IntN.{pos}
+use Prim.Native.Nat.{ℕ, zero, suc, _+_, _-_, _≤_}
 use lib.ListN.{length, getD}
-use Rattle.calls.specs.Terms.{eqZ}
-use Rattle.calls.specs.Calls.{Call, openSession, begin, commit, readSlot, readKey, rollUp, insert, update, delete, saveHeader, saveBlock, loadHeader, loadBlock, Answer}
-use Rattle.calls.specs.Numbers.{numbers}
-use Rattle.history.specs.Databases.{Database, placed, without}
+use Rattle.history.specs.Databases.{Database, Change, madeBy}
 
 pub record Followed : Type 0 where
   -- the version that the history starts at, and its database
   pub origin : ℕ
   pub opening : Database
-  -- the databases committed since, one a commit
-  pub committed : List Database
-  -- what the accepted changes so far leave
-  pub running : Database
+  -- the changes of each run that was committed since, one list a run
+  pub runs : List (List Change)
+  -- the changes so far of the run that is active
+  pub changes : List Change
   -- the number of the last run that has begun
   pub begun : ℕ
-  -- whether a run has begun that is not committed
+  -- whether a run is active
   pub active : Bool
 
 -- a history that starts at a version, with its database: no later run has begun
 abbrev pub starting : ℕ → Database → Followed
-starting version d = record { origin = version; opening = d; committed = []; running = d; begun = version; active = false }
+starting version d = record { origin = version; opening = d; runs = []; changes = []; begun = version; active = false }
 
 -- a fresh start is at version 1, whose database is empty
-abbrev pub start : Followed
-start = starting 1 []
+abbrev pub freshStart : Followed
+freshStart = starting 1 []
 
 -- the current version is the last committed
 abbrev pub current : Followed → ℕ
-current g = g .origin + length (g .committed)
+current g = g .origin + length (g .runs)
+
+-- the changes of run v
+abbrev pub changesOf : Followed → ℕ → List Change
+changesOf g v = getD (g .runs) (v - suc (g .origin)) []
+
+-- ---- the databases
+-- what the first so many runs make of a database, one after another
+abbrev pub afterRuns : ℕ → List (List Change) → Database → Database
+afterRuns zero runs d = d
+afterRuns (suc k) [] d = d
+afterRuns (suc k) (run ∷ runs) d = afterRuns k runs (madeBy run d)
 
 abbrev pub databaseAt : Followed → ℕ → Database
-databaseAt g v = getD (g .opening ∷ g .committed) (v - g .origin) []
+databaseAt g v = afterRuns (v - g .origin) (g .runs) (g .opening)
 
+-- the running database: what the changes so far make of the current one
+abbrev pub running : Followed → Database
+running g = madeBy (g .changes) (databaseAt g (current g))
+
+-- ---- versions
 -- a version that is committed, from the first up
 pub record Committed (g : Followed) (s : ℕ) : Type 0 where
   pub from : g .origin ≤ s
@@ -50,36 +62,35 @@ HasBegun g run = run ≤ g .begun
 abbrev pub Gone : ℕ → Followed → ℕ → Type 0
 Gone n g s = HasBegun g (s + n)
 
--- ---- a call is accepted if its refusal number is 0
-abbrev pub accepted : Answer → Bool
-accepted a = eqZ (getD (numbers a) 0 (pos 0)) (pos 0)
+-- ---- what is heard of a call: the changes that went in of it, that it began or committed a run, or that it loaded a block
+pub data Heard : Type 0 where
+  wentIn : List Change → Heard
+  beganRun : Heard
+  committedRun : Heard
+  loadedBlock : Heard
 
--- ---- what happens in a history: a change of the running database, a run's begin, its commit
-abbrev pub withRunning : Followed → Database → Followed
-withRunning g d = record { origin = g .origin; opening = g .opening; committed = g .committed; running = d; begun = g .begun; active = g .active }
+abbrev pub nothing : Heard
+nothing = wentIn []
 
+-- one change more in the run that is active
+abbrev pub withChange : Change → Followed → Followed
+withChange c g = record { origin = g .origin; opening = g .opening; runs = g .runs; changes = g .changes ++ (c ∷ []); begun = g .begun; active = g .active }
+
+abbrev pub withChanges : List Change → Followed → Followed
+withChanges [] g = g
+withChanges (c ∷ l) g = withChanges l (withChange c g)
+
+-- a run begins with no change, and has the number after current
 abbrev pub runBegun : Followed → Followed
-runBegun g = record { origin = g .origin; opening = g .opening; committed = g .committed; running = g .running; begun = suc (current g); active = true }
+runBegun g = record { origin = g .origin; opening = g .opening; runs = g .runs; changes = []; begun = suc (current g); active = true }
 
+-- a commit ends it, and adds its changes to the log
 abbrev pub runCommitted : Followed → Followed
-runCommitted g = record { origin = g .origin; opening = g .opening; committed = g .committed ++ (g .running ∷ []); running = g .running; begun = g .begun; active = false }
+runCommitted g = record { origin = g .origin; opening = g .opening; runs = g .runs ++ (g .changes ∷ []); changes = []; begun = g .begun; active = false }
 
--- ---- what an accepted call adds; one that is refused adds nothing
-abbrev pub hear : Call → Followed → Followed
-hear openSession g = g
-hear begin g = runBegun g
-hear commit g = runCommitted g
-hear (readSlot s k) g = g
-hear (readKey s one two) g = g
-hear (rollUp s one) g = g
-hear (insert one two a b) g = withRunning g (placed one two a b (g .running))
-hear (update one two a b) g = withRunning g (placed one two a b (g .running))
-hear (delete one two) g = withRunning g (without one two (g .running))
-hear saveHeader g = g
-hear (saveBlock k) g = g
-hear (loadHeader b) g = g
-hear (loadBlock k b) g = g
-
-abbrev pub followed : Bool → Call → Followed → Followed
-followed true call g = hear call g
-followed false call g = g
+-- a block that is loaded starts another history, which is not followed here
+abbrev pub hear : Heard → Followed → Followed
+hear (wentIn l) g = withChanges l g
+hear beganRun g = runBegun g
+hear committedRun g = runCommitted g
+hear loadedBlock g = g

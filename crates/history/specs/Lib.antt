@@ -1,4 +1,6 @@
 pub mod Databases
 pub mod Followed
-pub mod Histories
+pub mod Kinds
+pub mod Sessions
 pub mod Demand
+pub mod TwoVersions

@@ -1,0 +1,97 @@
+-- Fields of demand 3's statement at computed histories of a table of one slot: what document 01's wrong builds would break, and a
+-- wrong tally. They follow from `demand3` too; here they are computed from the definitions alone, so that a wrong build in these
+-- makes one of them false (`.ci/wrong-builds`). Assumes nothing.
+use mathlib.Core.Path.{_≡_, refl, sym, ap, _∙_}
+use mathlib.Core.List.{List, [], _∷_}
+use Prim.Native.Nat.{ℕ}
+use native.Mathlib.Omega.{arith}
+use lib.IntN.{ℤ, pos}
+use Rattle.laws.specs.Tests.{all, any}
+use Rattle.laws.specs.First.{first}
+use Rattle.laws.specs.Lowest.{lowest, some}
+use Rattle.version.specs.Record.{badRecord}
+use Rattle.version.specs.Sessions.{unborn, expired}
+use Rattle.version.specs.Runs.{beginRefusal, beginAnswer, beginRecord, commitRefusal, commitAnswer, commitRecord}
+use Rattle.table.specs.Slots.{badTable, slotAt, putSlot}
+use Rattle.table.specs.Operations.{column, live}
+use Rattle.table.specs.Totals.{lawful, unlawful}
+use Rattle.table.specs.Formed.{allZeros, totalsLawful, usedWell, wellFormed, anyBroken}
+use Rattle.searches.specs.Keys.{hasKey, keySlot}
+use Rattle.searches.specs.Free.{longDeleted, free, freeSlot}
+use Rattle.reads.specs.Table1.{shown}
+use Rattle.reads.specs.ReadSlot.{readSlotRefusal, readSlotAnswer}
+use Rattle.reads.specs.ReadKey.{readKeyRefusal, readKeyAnswer}
+use Rattle.reads.specs.RollUp.{rollUpRefusal, rollUpAnswer}
+use Rattle.cells.specs.Tables.{changed}
+use Rattle.changes.specs.Insert.{insertRefusal, insertAnswer, insertWords}
+use Rattle.changes.specs.Update.{updateRefusal, updateAnswer, updateWords}
+use Rattle.changes.specs.Delete.{deleteRefusal, deleteAnswer, deleteWords}
+use Rattle.calls.specs.Seen.{Seen}
+use Rattle.calls.specs.Seen as seen
+use Rattle.calls.specs.Rolled as rolled
+use Rattle.calls.specs.Calls.{Call, begin, commit, insert, update, delete, readKey, rollUp}
+use Rattle.calls.specs.Calls as answer
+use Rattle.history.specs.Databases.{found, rolledUp}
+use Rattle.history.specs.Followed.{databaseAt}
+use Rattle.history.specs.Kinds.{World, freshWorld, after, answerOf}
+use Rattle.history.specs.Demand.{IsGone, KeyRead, RegionRead, Full}
+use Rattle.history.specs.TwoVersions.{twoVersions}
+
+-- run 2 inserts the row (1, 14), and what comes then
+abbrev withRow : List Call → World twoVersions
+withRow h = after {K = twoVersions} h (after {K = twoVersions} (begin ∷ insert (pos 1) (pos 14) (pos 100) (pos 5) ∷ commit ∷ begin ∷ []) (freshWorld twoVersions 1))
+
+-- run 3 corrects it twice
+abbrev correctedTwice : World twoVersions
+correctedTwice = withRow (update (pos 1) (pos 14) (pos 110) (pos 5) ∷ update (pos 1) (pos 14) (pos 120) (pos 5) ∷ [])
+
+-- run 3 deletes it and inserts it again
+abbrev deletedInserted : World twoVersions
+deletedInserted = withRow (delete (pos 1) (pos 14) ∷ insert (pos 1) (pos 14) (pos 130) (pos 5) ∷ [])
+
+-- run 3 deletes it, and another key finds no slot
+abbrev deletedAnother : World twoVersions
+deletedAnother = withRow (delete (pos 1) (pos 14) ∷ insert (pos 2) (pos 14) (pos 300) (pos 0) ∷ [])
+
+-- run 2 inserts a row and corrects it
+abbrev insertedCorrected : World twoVersions
+insertedCorrected =
+    after {K = twoVersions} (begin ∷ insert (pos 1) (pos 14) (pos 100) (pos 5) ∷ update (pos 1) (pos 14) (pos 110) (pos 5) ∷ []) (freshWorld twoVersions 1)
+
+-- a field is shown by what both sides of it come to
+read-as : (w : World twoVersions) (s : ℕ) (one two : ℤ) (r : Seen) → (IsGone w s → ⊥) → answerOf (readKey (pos s) one two) w ≡ answer.seen r
+    → found one two (databaseAt (w .told) s) ≡ r → KeyRead w s one two
+read-as w s one two r open-still got shown = record { gone = λ h. absurd (open-still h); kept = λ still. got ∙ ap answer.seen (sym shown) }
+
+pub record Held : Type 0 where
+  -- 1. a session at 2 reads the row as it was before run 3, however often that corrects it
+  pub corrected-twice : KeyRead correctedTwice 2 (pos 1) (pos 14)
+  -- 2. a session at 1 reads no row of a key that run 2 inserted and corrected
+  pub inserted-corrected : KeyRead insertedCorrected 1 (pos 1) (pos 14)
+  -- 3. a session at 2 keeps the row that run 3 deleted and inserted again
+  pub deleted-inserted : KeyRead deletedInserted 2 (pos 1) (pos 14)
+  -- 4. a slot that run 3 deleted is still a session's: there is no room for another key, and the session reads its row
+  pub no-room : Full 1 (withRow (delete (pos 1) (pos 14) ∷ [])) (pos 2) (pos 14) (pos 300) (pos 0)
+  pub deleted-another : KeyRead deletedAnother 2 (pos 1) (pos 14)
+  -- 5. once run 3 has begun, version 1 is gone
+  pub gone : KeyRead (withRow []) 1 (pos 1) (pos 14)
+  -- a region's roll-up has the sum of each total
+  pub region : RegionRead correctedTwice 2 (pos 1)
+
+pub held : Held
+unfolding all any first lowest some badRecord unborn expired beginRefusal beginAnswer beginRecord commitRefusal commitAnswer commitRecord badTable slotAt putSlot column live lawful unlawful allZeros totalsLawful usedWell wellFormed anyBroken hasKey keySlot longDeleted free freeSlot shown readSlotRefusal readSlotAnswer rollUpRefusal rollUpAnswer changed insertRefusal insertAnswer insertWords updateRefusal updateAnswer updateWords deleteRefusal deleteAnswer deleteWords readKeyRefusal readKeyAnswer
+held = record {
+  corrected-twice = read-as correctedTwice 2 (pos 1) (pos 14) (seen.Row (pos 1) (pos 14) (pos 100) (pos 5)) (λ h. omega arith) refl refl;
+  inserted-corrected = read-as insertedCorrected 1 (pos 1) (pos 14) seen.NoRow (λ h. omega arith) refl refl;
+  deleted-inserted = read-as deletedInserted 2 (pos 1) (pos 14) (seen.Row (pos 1) (pos 14) (pos 100) (pos 5)) (λ h. omega arith) refl refl;
+  no-room = record { full = λ f. refl; room = λ room. absurd (room (refl, refl)) };
+  deleted-another = read-as deletedAnother 2 (pos 1) (pos 14) (seen.Row (pos 1) (pos 14) (pos 100) (pos 5)) (λ h. omega arith) refl refl;
+  gone = record { gone = λ h. refl; kept = λ still. absurd (still (omega arith)) };
+  region = record { gone = λ h. absurd (omega arith); kept = λ still. got ∙ ap answer.rolled (sym summed) };
+}
+  where
+    got : answerOf {K = twoVersions} (rollUp (pos 2) (pos 1)) correctedTwice ≡ answer.rolled (rolled.Sums 1 (pos 100) (pos 5))
+    got = refl
+
+    summed : rolledUp (pos 1) (databaseAt (correctedTwice .told) 2) ≡ rolled.Sums 1 (pos 100) (pos 5)
+    summed = refl

@@ -1,0 +1,119 @@
+-- From what a kind of table supplies to every promise of demand 3: `kept`, wherever all is well; `from`, after every history from
+-- such a start; `demanded`, after every history from a fresh one. A read answers what the view shows, which is the database's; a
+-- session's answers are readings of the view, whose rows stay while its version does. Assumes nothing.
+use mathlib.Core.Path.{_≡_, refl, sym, ap, subst, _∙_}
+use mathlib.Core.Bool.{true}
+use mathlib.Core.List.{List, [], _∷_}
+use Prim.Native.Nat.{ℕ}
+use native.Mathlib.Omega.{arith}
+use lib.IntN.{pos}
+use Rattle.laws.specs.Tests.{by-order, clash}
+use Rattle.calls.specs.Calls as answer
+use Rattle.history.specs.Databases.{NoRepeat, madeBy, rolledUp}
+use Rattle.history.specs.Followed.{freshStart, current, databaseAt, Committed}
+use Rattle.history.specs.Kinds.{Kind, accepted, World, freshWorld, answerOf, next, after, NoLoad}
+use Rattle.history.specs.Sessions.{Turn, mine, other, callsOf, slotsAsked, answersGot, NoneRefused, rowsGot}
+use Rattle.history.specs.Demand.{IsGone, Shows, shows, KeyReads, RollUps, SlotReads, Sessions, Incident, Kept, Demanded}
+use Rattle.history.proofs.Databases.{rolled-perm}
+use Rattle.history.proofs.Growth.{grown, current-committed, run-made}
+use Rattle.history.proofs.Reading.{key-row, slot-row, region-sums, Readings, none, moved, read, session-rows}
+use Rattle.history.proofs.Argument.{Argument, Well, Goes, went-well, after-step}
+use Rattle.history.proofs.Once.{database-once, running-once, opening-after}
+
+module _ {K : Kind} (A : Argument K) where
+  module _ (m : ℕ) (w : World K) (i : Well A m w) where
+    key-reads : KeyReads w
+    key-reads s c one two =
+        let r = A .reads m w i in
+        record {
+          gone = λ h. r .key-gone c h one two;
+          kept = λ still. r .key-shown c still one two ∙ ap answer.seen (key-row (i .inv) c still (r .placed one two));
+        }
+
+    roll-ups : RollUps w
+    roll-ups s c one =
+        let r = A .reads m w i in
+        record {
+          gone = λ h. r .sums-gone c h one;
+          kept = λ still. r .sums-shown c still one ∙ ap answer.rolled (region-sums (i .inv) c still one);
+        }
+
+    slot-reads : SlotReads m w
+    slot-reads s c k =
+        let r = A .reads m w i in
+        record {
+          gone = λ h. r .slot-gone c h k;
+          past = λ still. r .slot-past c still k;
+          kept = λ still l. subst (Shows (databaseAt (w .told) s)) (sym (r .slot-shown c still k l)) (shows _ (slot-row (i .inv) c still k l));
+          stays = λ h no-load still.
+              let x = after-step A m w i h no-load in
+              let r′ = A .reads m (after h w) (went-well A x) in
+              let c′ = grown (x .step .grows) c in
+              let before : IsGone w s → ⊥ = λ z. still (omega (arith, x .step .grows .begun)) in
+              by-order k m
+              (λ l. r′ .slot-shown c′ still k l ∙ ap answer.seen (x .step .stays s c still k) ∙ sym (r .slot-shown c before k l))
+              (λ l. r′ .slot-past c′ still k l ∙ sym (r .slot-past c before k l));
+        }
+
+  -- ---- a session's answers are readings
+  module _ (m s : ℕ) where
+    readings : (turns : List (Turn K)) (w : World K) → Well A m w → Committed (w .told) s → NoLoad (callsOf s turns) w → NoneRefused (answersGot s turns w)
+        → Readings (K .keeps) m s (A .view w) (w .told) (slotsAsked turns) (rowsGot (answersGot s turns w))
+    readings [] w i c no-load ok = none
+    readings (mine k ∷ turns) w i c no-load ok =
+        let r = A .reads m w i in
+        let still : IsGone w s → ⊥ = λ h. clash (ok .0) (ap accepted (r .slot-gone c h k)) in
+        let x = A .makes m w i (K .readSlot (pos s) k) (no-load .0) in
+        by-order k m
+        (λ l. subst (λ a. Readings (K .keeps) m s (A .view w) (w .told) (k ∷ slotsAsked turns) (rowsGot (a ∷ answersGot s turns (next (K .readSlot (pos s) k) w))))
+        (sym (r .slot-shown c still k l))
+        (read k still (moved (x .step) (readings turns (next (K .readSlot (pos s) k) w) (went-well A x) (grown (x .step .grows) c) (no-load .1) (ok .1)))))
+        (λ l. clash (ok .0) (ap accepted (r .slot-past c still k l)))
+    readings (other call ∷ turns) w i c no-load ok =
+        let x = A .makes m w i call (no-load .0) in
+        moved (x .step) (readings turns (next call w) (went-well A x) (grown (x .step .grows) c) (no-load .1) ok)
+
+  module _ (m : ℕ) (w : World K) (i : Well A m w) where
+    sessions : Sessions m w
+    sessions s c turns x = session-rows (i .inv) (A .some m w (i .sound)) c (readings m s turns w i c (x .no-load) (x .none-refused)) (x .each)
+
+    -- the incident: the roll-up is the database's, which stays, and the rows that the session got are a permutation of it
+    incident : Incident m w
+    incident s c turns each h no-load still region =
+        let x = after-step A m w i h no-load in
+        roll-ups m (after h w) (went-well A x) s (grown (x .step .grows) c) region .kept still
+        ∙ ap answer.rolled (ap (rolledUp region) (x .step .grows .databases s c) ∙ sym (rolled-perm region (sessions s c turns each)))
+
+    -- ---- from all well to every promise
+    pub kept : NoRepeat (w .told .opening) → Kept m w
+    kept once = record {
+      runs = A .runs m w i;
+      keyReads = key-reads m w i;
+      rollUps = roll-ups m w i;
+      slotReads = slot-reads m w i;
+      sessions = sessions;
+      fullness = A .fullness m w i;
+      changes = A .changes m w i;
+      incident = incident;
+      databases = record {
+        made = run-made (w .told);
+        kept = λ s c h no-load. after-step A m w i h no-load .step .grows .databases s c;
+        settled = λ idle. ap (λ l. madeBy l (databaseAt (w .told) (current (w .told)))) (i .inv .settled idle);
+        once = database-once (w .told) once;
+        running-once = running-once (w .told) once;
+      };
+    }
+
+  -- ---- from a start to every history
+  pub from : (m : ℕ) (w : World K) → Well A m w → NoRepeat (w .told .opening) → (h : List (K .Call)) → NoLoad h w → Kept m (after h w)
+  from m w i once h no-load = kept m (after h w) (went-well A (after-step A m w i h no-load)) (rw (opening-after h w) once)
+
+  pub demanded : Demanded K
+  demanded m size h no-load =
+      let i = A .fresh m size in
+      let grows = after-step A m (freshWorld K m) i h no-load .step .grows in
+      record {
+        origin = grows .origin;
+        empty = grows .databases 1 (current-committed freshStart);
+        kept = from m (freshWorld K m) i tt h no-load;
+      }

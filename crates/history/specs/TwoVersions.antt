@@ -1,0 +1,64 @@
+-- The table of eight words to a slot, which keeps two versions, as a kind: its calls are the library's, and what is heard of one is
+-- worked out from its arguments and its answer. Demand 3 is what is demanded of it. Assumes nothing.
+use mathlib.Core.Bool.{cond}
+use mathlib.Core.List.{List, [], _∷_}
+use Prim.Native.Nat.{ℕ}
+use lib.ListN.{take}
+use Rattle.calls.specs.Terms.{freshRecord, freshTable}
+use Rattle.calls.specs.Calls.{Call, openSession, begin, commit, readSlot, readKey, rollUp, insert, update, delete, saveHeader, saveBlock, loadHeader, loadBlock, Answer}
+use Rattle.calls.specs.Perform.{State, perform}
+use Rattle.history.specs.Databases.{Change, gives, takesOut}
+use Rattle.history.specs.Followed.{current, Heard, wentIn, nothing, beganRun, committedRun, loadedBlock}
+use Rattle.history.specs.Kinds.{Kind, accepted}
+use Rattle.history.specs.Demand.{Demanded}
+
+-- of the changes that a call asks for, those that went in: one that is accepted, none that is refused
+abbrev pub heardChanges : Answer → List Change → Heard
+heardChanges a asked = wentIn (take (cond (accepted a) 1 0) asked)
+
+abbrev pub ifAccepted : Answer → Heard → Heard
+ifAccepted a x = cond (accepted a) x nothing
+
+abbrev pub heardFrom : Call → Answer → Heard
+heardFrom openSession a = nothing
+heardFrom begin a = ifAccepted a beganRun
+heardFrom commit a = ifAccepted a committedRun
+heardFrom (readSlot s k) a = nothing
+heardFrom (readKey s one two) a = nothing
+heardFrom (rollUp s one) a = nothing
+heardFrom (insert one two x y) a = heardChanges a (gives one two x y ∷ [])
+heardFrom (update one two x y) a = heardChanges a (gives one two x y ∷ [])
+heardFrom (delete one two) a = heardChanges a (takesOut one two ∷ [])
+heardFrom saveHeader a = nothing
+heardFrom (saveBlock k) a = nothing
+heardFrom (loadHeader b) a = nothing
+heardFrom (loadBlock k b) a = ifAccepted a loadedBlock
+
+-- a fresh table of m slots and a fresh record
+abbrev pub freshState : ℕ → State
+freshState m = record { words = freshTable m; version = freshRecord; block = [] }
+
+-- during a run the one open version is current
+abbrev pub twoVersions : Kind
+twoVersions = record {
+  State = State;
+  fresh = freshState;
+  Call = Call;
+  answer = λ call st. perform call st .answer;
+  left = λ call st. perform call st .state;
+  heard = heardFrom;
+  keeps = 2;
+  openInRun = λ g. current g ∷ [];
+  openSession = openSession;
+  begin = begin;
+  commit = commit;
+  readSlot = readSlot;
+  readKey = readKey;
+  rollUp = rollUp;
+  insert = insert;
+  update = update;
+  delete = delete;
+}
+
+abbrev pub Demand3 : Type 0
+Demand3 = Demanded twoVersions
