@@ -33,7 +33,7 @@ use Rattle.changes.specs.declared.Placed.{Placed}
 use Rattle.cells.specs.Tables.{inserted, updated, deleted}
 use Rattle.cells.specs.TableLaws.{inserted-new, inserted-older, inserted-same, updated-older, updated-same, deleted-older, deleted-insert, deleted-update}
 use Rattle.changes.specs.Effects.{Effect, run-within, save-effect, correct-effect, remove-effect, erase-effect, mark-effect, restore-effect, insert-effect}
-use Rattle.changes.specs.Whole.{Whole, Distinct, Wrote, only}
+use Rattle.changes.specs.Whole.{Whole, KeysApart, Wrote, only-slot}
 use Rattle.changes.specs.Insert.{insertSlot, insertRefusal, insertAnswer, insertWords}
 use Rattle.changes.specs.Update.{updateRefusal, updateAnswer, updateWords}
 use Rattle.changes.specs.Delete.{deleteRefusal, deleteAnswer, deleteWords}
@@ -90,7 +90,7 @@ module _ (v : Version) (known : badRecord v ≡ false) (active : v .active ≡ t
       (insert-effect v known active x one two a b g (free-unseen x f .0) (free-unseen x f .1))
 
 -- ---- update and delete write at a live key's slot, which is used and has the key: what is left to show is the effect
-live-wrote : (t : List ℤ) (v : Version) (one two : ℤ) (after : Seen) (y : Slot) {t′ : List ℤ} → Whole t v → Distinct t → keyLive t one two ≡ true
+live-wrote : (t : List ℤ) (v : Version) (one two : ℤ) (after : Seen) (y : Slot) {t′ : List ℤ} → Whole t v → KeysApart t → keyLive t one two ≡ true
     → t′ ≡ putSlot t (keySlot t one two) y → (Used (keyed t one two) v → Keyed (keyed t one two) one two → Effect v (keyed t one two) y one two after)
     → Wrote t v one two after (keySlot t one two) t′
 live-wrote t v one two after y whole distinct l e effect =
@@ -100,11 +100,11 @@ live-wrote t v one two after y whole distinct l e effect =
       slot = y;
       place = place;
       words = e;
-      alone = only t distinct (keySlot t one two) one two has;
+      alone = only-slot t distinct (keySlot t one two) one two has;
       effect = effect (live-used _ v l (whole .formed _)) (has-key _ one two has);
     }
 
-pub update-wrote : (t : List ℤ) (v : Version) (one two a b : ℤ) → Whole t v → Distinct t → updateRefusal t v one two a b ≡ 0
+pub update-wrote : (t : List ℤ) (v : Version) (one two a b : ℤ) → Whole t v → KeysApart t → updateRefusal t v one two a b ≡ 0
     → Wrote t v one two (Row one two a b) (keySlot t one two) (updateWords t v one two a b)
 unfolding updateRefusal updateWords
 update-wrote t v one two a b whole distinct h =
@@ -112,7 +112,7 @@ update-wrote t v one two a b whole distinct h =
     let l = not-no (no 11) in
     live-wrote t v one two _ _ whole distinct l (rw h refl) (λ u k. update-effect v (no 2) (not-no (no 8)) _ one two a b u k l (given a b (no 13)))
 
-pub delete-wrote : (t : List ℤ) (v : Version) (one two : ℤ) → Whole t v → Distinct t → deleteRefusal t v one two ≡ 0
+pub delete-wrote : (t : List ℤ) (v : Version) (one two : ℤ) → Whole t v → KeysApart t → deleteRefusal t v one two ≡ 0
     → Wrote t v one two NoRow (keySlot t one two) (deleteWords t v one two)
 unfolding deleteRefusal deleteWords
 delete-wrote t v one two whole distinct h =
@@ -125,7 +125,7 @@ delete-wrote t v one two whole distinct h =
 pub keyed-used : (x : Slot) (v : Version) (one two : ℤ) → wellFormed x v ≡ true → hasKey x one two ≡ true → Used x v
 keyed-used x v one two w h = formed-cases x v w (λ e. clash h (rw e (empty-keyless one two))) (λ u. u)
 
-pub insert-wrote : (t : List ℤ) (v : Version) (one two a b : ℤ) → Whole t v → Distinct t → insertRefusal t v one two a b ≡ 0
+pub insert-wrote : (t : List ℤ) (v : Version) (one two a b : ℤ) → Whole t v → KeysApart t → insertRefusal t v one two a b ≡ 0
     → Wrote t v one two (Row one two a b) (insertSlot t v one two) (insertWords t v one two a b)
 unfolding insertRefusal insertWords
 insert-wrote t v one two a b whole distinct h =
@@ -139,7 +139,7 @@ insert-wrote t v one two a b whole distinct h =
       place = ltb-true _ _ room;
       words = rw h refl;
       alone = by-test (ltb k (slots t))
-          (λ y. rw y (only t distinct k one two (keySlot-is t one two .passes (ltb-true _ _ y))))
+          (λ y. rw y (only-slot t distinct k one two (keySlot-is t one two .passes (ltb-true _ _ y))))
           (λ n. λ j ne. absent-nowhere t one two (no 1) (ltb-false _ _ n) j);
       effect = by-test (ltb k (slots t))
           (λ y. let has = keySlot-is t one two .passes (ltb-true _ _ y) in
@@ -160,17 +160,17 @@ came : {t t′ : List ℤ} {v : Version} {one two : ℤ} {after : Seen} {r : Pla
 came {n = zero} refused accepted wrote = accepts _ (accepted refl) (wrote refl)
 came {n = suc m} refused accepted wrote = refuses m (refused m refl)
 
-pub insert-came : (t : List ℤ) (v : Version) (one two a b : ℤ) → Whole t v → Distinct t
+pub insert-came : (t : List ℤ) (v : Version) (one two a b : ℤ) → Whole t v → KeysApart t
     → Came t v one two (Row one two a b) (insertAnswer t v one two a b) (insertWords t v one two a b)
 insert-came t v one two a b whole distinct =
     came {n = insertRefusal t v one two a b} (insert-refuses t v one two a b) (insert-accepts t v one two a b) (insert-wrote t v one two a b whole distinct)
 
-pub update-came : (t : List ℤ) (v : Version) (one two a b : ℤ) → Whole t v → Distinct t
+pub update-came : (t : List ℤ) (v : Version) (one two a b : ℤ) → Whole t v → KeysApart t
     → Came t v one two (Row one two a b) (updateAnswer t v one two a b) (updateWords t v one two a b)
 update-came t v one two a b whole distinct =
     came {n = updateRefusal t v one two a b} (update-refuses t v one two a b) (update-accepts t v one two a b) (update-wrote t v one two a b whole distinct)
 
-pub delete-came : (t : List ℤ) (v : Version) (one two : ℤ) → Whole t v → Distinct t
+pub delete-came : (t : List ℤ) (v : Version) (one two : ℤ) → Whole t v → KeysApart t
     → Came t v one two NoRow (deleteAnswer t v one two) (deleteWords t v one two)
 delete-came t v one two whole distinct =
     came {n = deleteRefusal t v one two} (delete-refuses t v one two) (delete-accepts t v one two) (delete-wrote t v one two whole distinct)

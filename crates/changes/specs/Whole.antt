@@ -18,8 +18,8 @@ use Rattle.reads.specs.declared.Seen.{Seen}
 use Rattle.changes.specs.Effects.{Effect}
 
 -- no key has two slots
-abbrev pub Distinct : List ℤ → Type 0
-Distinct t = (i j : ℕ) (one two : ℤ) → hasKey (slotAt t i) one two ≡ true → hasKey (slotAt t j) one two ≡ true → i ≡ j
+abbrev pub KeysApart : List ℤ → Type 0
+KeysApart t = (i j : ℕ) (one two : ℤ) → hasKey (slotAt t i) one two ≡ true → hasKey (slotAt t j) one two ≡ true → i ≡ j
 
 pub record Whole (t : List ℤ) (v : Version) : Type 0 where
   pub shape : badTable t ≡ false
@@ -34,13 +34,13 @@ pub record Wrote (t : List ℤ) (v : Version) (one two : ℤ) (after : Seen) (k 
   pub effect : Effect v (slotAt t k) slot one two after
 
 -- ---- every slot after the write is the written one, or the one that stood there
-by-place : {P : Type 0} (j k : ℕ) → (j ≡ k → P) → ((j ≡ k → ⊥) → P) → P
+pub by-place : {P : Type 0} (j k : ℕ) → (j ≡ k → P) → ((j ≡ k → ⊥) → P) → P
 by-place j k f g = by-test (eqb j k) (λ y. f (eqb-true j k y)) (λ n. g (eqb-false j k n))
 
 -- where no key has two slots, a key's slot is the only one that has it
-pub only : (t : List ℤ) → Distinct t → (k : ℕ) (one two : ℤ) → hasKey (slotAt t k) one two ≡ true
+pub only-slot : (t : List ℤ) → KeysApart t → (k : ℕ) (one two : ℤ) → hasKey (slotAt t k) one two ≡ true
     → (j : ℕ) → (j ≡ k → ⊥) → hasKey (slotAt t j) one two ≡ false
-only t d k one two h j ne = by-test (hasKey (slotAt t j) one two) (λ y. absurd (ne (d j k one two y h))) (λ n. n)
+only-slot t d k one two h j ne = by-test (hasKey (slotAt t j) one two) (λ y. absurd (ne (d j k one two y h))) (λ n. n)
 
 module _ (t : List ℤ) (v : Version) (one two : ℤ) (after : Seen) (k : ℕ) (t′ : List ℤ) (whole : Whole t v) (w : Wrote t v one two after k t′) where
   pub written-slot : slotAt t′ k ≡ w .slot

@@ -78,6 +78,17 @@ pub record Held : Type 0 where
   -- a region's roll-up has the sum of each total
   pub region : RegionRead correctedTwice 2 (pos 1)
 
+-- the roll-up stands apart, so that a build that breaks a read of a key is refused there too
+summed : RegionRead correctedTwice 2 (pos 1)
+unfolding all any first lowest some badRecord unborn expired beginRefusal beginAnswer beginRecord commitRefusal commitAnswer commitRecord badTable slotAt putSlot column live lawful unlawful allZeros totalsLawful usedWell wellFormed anyBroken hasKey keySlot longDeleted free freeSlot shown readSlotRefusal readSlotAnswer rollUpRefusal rollUpAnswer changed insertRefusal insertAnswer insertWords updateRefusal updateAnswer updateWords deleteRefusal deleteAnswer deleteWords readKeyRefusal readKeyAnswer
+summed = record { gone = λ h. absurd (omega arith); kept = λ still. got ∙ ap answer.rolled (sym sums) }
+  where
+    got : answerOf {K = twoVersions} (rollUp (pos 2) (pos 1)) correctedTwice ≡ answer.rolled (rolled.Sums 1 (pos 100) (pos 5))
+    got = refl
+
+    sums : rolledUp (pos 1) (databaseAt (correctedTwice .told) 2) ≡ rolled.Sums 1 (pos 100) (pos 5)
+    sums = refl
+
 pub held : Held
 unfolding all any first lowest some badRecord unborn expired beginRefusal beginAnswer beginRecord commitRefusal commitAnswer commitRecord badTable slotAt putSlot column live lawful unlawful allZeros totalsLawful usedWell wellFormed anyBroken hasKey keySlot longDeleted free freeSlot shown readSlotRefusal readSlotAnswer rollUpRefusal rollUpAnswer changed insertRefusal insertAnswer insertWords updateRefusal updateAnswer updateWords deleteRefusal deleteAnswer deleteWords readKeyRefusal readKeyAnswer
 held = record {
@@ -87,11 +98,5 @@ held = record {
   no-room = record { full = λ f. refl; room = λ room. absurd (room (refl, refl)) };
   deleted-another = read-as deletedAnother 2 (pos 1) (pos 14) (seen.Row (pos 1) (pos 14) (pos 100) (pos 5)) (λ h. omega arith) refl refl;
   gone = record { gone = λ h. refl; kept = λ still. absurd (still (omega arith)) };
-  region = record { gone = λ h. absurd (omega arith); kept = λ still. got ∙ ap answer.rolled (sym summed) };
+  region = summed;
 }
-  where
-    got : answerOf {K = twoVersions} (rollUp (pos 2) (pos 1)) correctedTwice ≡ answer.rolled (rolled.Sums 1 (pos 100) (pos 5))
-    got = refl
-
-    summed : rolledUp (pos 1) (databaseAt (correctedTwice .told) 2) ≡ rolled.Sums 1 (pos 100) (pos 5)
-    summed = refl

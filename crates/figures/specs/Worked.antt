@@ -1,8 +1,9 @@
 -- A worked history of a table of two slots, computed: the premises of demand 3's statements hold in it, so that none of them is
--- empty. A session at version 2 reads slot 0 before run 3 and slot 1 after it; a load and a change are refused; during run 3 the
--- table is full; run 4 makes the session expire, and takes the slot that run 3 freed. Assumes nothing.
+-- empty; only the largest version, 10^9 runs away, is not reached. A session at version 2 reads slot 0 before run 3 and slot 1
+-- after it; a load and changes are refused; during run 3 the table is full; run 4 makes the session expire, and takes the slot
+-- that run 3 freed. Assumes nothing.
 use mathlib.Core.Path.{_≡_, refl}
-use mathlib.Core.Bool.{true, false}
+use mathlib.Core.Bool.{false}
 use mathlib.Core.List.{List, [], _∷_, Perm}
 use mathlib.Core.List as L
 use native.Mathlib.Omega.{arith}
@@ -44,14 +45,14 @@ use Rattle.history.specs.TwoVersions.{twoVersions}
 abbrev TwoWorld : Type 0
 TwoWorld = World twoVersions
 
--- two rows of one group, and a third
+-- two rows of one group
 abbrev first-row : Row
 first-row = row (pos 1) (pos 14) (pos 100) (pos 0)
 
 abbrev second-row : Row
 second-row = row (pos 1) (pos 15) (pos 200) (pos 0)
 
--- run 2 inserts the two; before it a load of no bytes is refused, in it an insert of a key that is live
+-- a load of no bytes is refused; run 2 inserts the two rows, and an insert of a key that is live is refused
 abbrev run2 : List Call
 run2 =
     loadBlock 1 []
@@ -59,11 +60,13 @@ run2 =
     ∷ insert (pos 1) (pos 14) (pos 100) (pos 0)
     ∷ insert (pos 1) (pos 15) (pos 200) (pos 0)
     ∷ insert (pos 1) (pos 14) (pos 300) (pos 0)
-    ∷ commit
     ∷ []
 
+abbrev in2 : TwoWorld
+in2 = after run2 (freshWorld twoVersions 2)
+
 abbrev at2 : TwoWorld
-at2 = after run2 (freshWorld twoVersions 2)
+at2 = after {K = twoVersions} (commit ∷ []) in2
 
 -- run 3 corrects the first twice and deletes the second
 abbrev run3 : List Call
@@ -100,18 +103,24 @@ pub record Worked : Type 0 where
   }
   pub database : databaseAt (at2 .told) 2 ≡ second-row ∷ first-row ∷ []
   pub running-then : running (in3 .told) ≡ row (pos 1) (pos 14) (pos 120) (pos 0) ∷ []
-  -- the load and the insert are refused, and no block is loaded
+  -- no block is loaded: the load is refused
   pub load-refused : answerOf (loadBlock 1 []) (freshWorld twoVersions 2) ≡ answer.loaded (loaded.Refused 14)
   pub no-load : NoLoad run2 (freshWorld twoVersions 2)
-  pub change-refused : answerOf {K = twoVersions} (insert (pos 1) (pos 14) (pos 300) (pos 0)) (after {K = twoVersions} (begin ∷ []) at2) ≡ answer.placed (placed.Refused 10)
-  -- version 2 is committed; it is not gone in run 3, and gone in run 4
+  -- changes that are refused: of a live key, of an absent one, with totals out of range, and with no run
+  pub live : answerOf {K = twoVersions} (insert (pos 1) (pos 14) (pos 300) (pos 0)) in2 ≡ answer.placed (placed.Refused 10)
+  pub absent : answerOf {K = twoVersions} (update (pos 2) (pos 14) (pos 300) (pos 0)) in3 ≡ answer.placed (placed.Refused 11)
+  pub out-of-range : answerOf {K = twoVersions} (update (pos 1) (pos 14) (pos 0) (pos 1000000000000001)) in3 ≡ answer.placed (placed.Refused 13)
+  pub no-run : answerOf {K = twoVersions} (delete (pos 1) (pos 14)) at2 ≡ answer.placed (placed.Refused 8)
+  -- versions 1 and 2 are committed; version 2 is not gone in run 3, and gone in run 4
+  pub committed-first : Committed (at2 .told) 1
   pub committed : Committed (at2 .told) 2
   pub not-gone : IsGone in3 2 → ⊥
   pub gone : IsGone in4 2
-  -- the session reads each slot once, in another order than the table's, and gets the rows of database 2
+  -- the session reads each slot once (`upTo` has them the other way round), and gets the rows of database 2
   pub each : ReadsEach 2 at2 2 turns
   pub rows : rowsGot (answersGot 2 turns at2) ≡ first-row ∷ second-row ∷ []
   pub its-rows : Perm (rowsGot (answersGot 2 turns at2)) (databaseAt (at2 .told) 2)
+  pub past : answerOf {K = twoVersions} (readSlot (pos 2) 2) at2 ≡ answer.seen (seen.Refused 5)
   -- in run 3 a key read and the region's roll-up at version 2 answer what they did
   pub key : answerOf {K = twoVersions} (readKey (pos 2) (pos 1) (pos 14)) in3 ≡ answer.seen (seen.Row (pos 1) (pos 14) (pos 100) (pos 0))
   pub region : answerOf {K = twoVersions} (rollUp (pos 2) (pos 1)) in3 ≡ answer.rolled (rolled.Sums 2 (pos 300) (pos 0))
@@ -129,8 +138,12 @@ worked = record {
   database = refl;
   running-then = refl;
   load-refused = refl;
-  no-load = (refl, (refl, (refl, (refl, (refl, (refl, tt))))));
-  change-refused = refl;
+  no-load = (refl, (refl, (refl, (refl, (refl, tt)))));
+  live = refl;
+  absent = refl;
+  out-of-range = refl;
+  no-run = refl;
+  committed-first = record { from = omega arith; to = omega arith };
   committed = record { from = omega arith; to = omega arith };
   not-gone = λ h. omega arith;
   gone = omega arith;
@@ -141,6 +154,7 @@ worked = record {
   };
   rows = refl;
   its-rows = ∣ L.List·Permᴰ·swap refl refl ∣₁;
+  past = refl;
   key = refl;
   region = refl;
   is-full = (refl, refl);

@@ -1,12 +1,10 @@
 -- What reads of the table of two versions answer where all is well: refused by 4 exactly when the version is gone, and else what
 -- the view shows, since the shape and the record are sound, the session is born, and no slot is broken. Assumes nothing.
 use mathlib.Core.Path.{_≡_, refl, ap, _∙_}
-use mathlib.Core.Bool.{true, false}
+use mathlib.Core.Bool.{false}
 use mathlib.Core.List.{List, _∷_, map}
 use Prim.Native.Nat.{ℕ, zero, suc}
 use lib.IntN.{ℤ, pos}
-use Rattle.version.specs.Record.{badRecord}
-use Rattle.version.specs.Sessions.{unborn, expired}
 use Rattle.table.specs.Slots.{badTable, slotAt}
 use Rattle.table.specs.FormedLaws.{all-formed}
 use Rattle.searches.specs.Keys.{keySlot}
@@ -15,10 +13,8 @@ use Rattle.reads.specs.RollUp
 use Rattle.reads.specs.Outcomes.{key-expired, key-shown, roll-up-expired, roll-up-summed, slot-expired, slot-past, slot-shown}
 use Rattle.calls.specs.Calls as answer
 use Rattle.history.specs.Databases.{upTo}
-use Rattle.history.specs.Followed.{Committed}
-use Rattle.history.specs.Demand.{IsGone}
-use Rattle.history.proofs.Recorded.{is-born, is-gone, is-kept}
-use Rattle.history.proofs.Table.{viewOf, key-place}
+use Rattle.history.proofs.Recorded.{Recorded, is-born, is-gone, is-kept}
+use Rattle.history.proofs.Table.{viewOf}
 use Rattle.history.proofs.Argument.{Reads}
 use Rattle.history.proofs.Steps.{TableWorld, worldView, Well}
 
@@ -31,31 +27,20 @@ module _ (m : ℕ) (w : TableWorld) (i : Well m w) where
   shape : badTable (w .state .words) ≡ false
   shape = i .sound .whole .shape
 
-  known : badRecord (w .state .version) ≡ false
-  known = i .sound .recorded .known
+  recorded : Recorded (w .state .version) (w .told)
+  recorded = i .sound .recorded
 
-  module _ {s : ℕ} (c : Committed (w .told) s) where
-    was-born : unborn (w .state .version) (pos s) ≡ false
-    was-born = is-born (i .sound .recorded) c
-
-    past : IsGone w s → expired (w .state .version) (pos s) ≡ true
-    past = is-gone (i .sound .recorded) c
-
-    kept : (IsGone w s → ⊥) → expired (w .state .version) (pos s) ≡ false
-    kept = is-kept (i .sound .recorded) c
-
-  pub reads : Reads (worldView w) m w
+  pub reads : Reads (worldView w) (keySlot (w .state .words)) m w
   reads = record {
-    place = keySlot (w .state .words);
-    placed = key-place (i .sound);
-    key-gone = λ c h one two. ap answer.seen (key-expired _ _ _ shape known (was-born c) one two (past c h));
-    key-shown = λ c still one two. ap answer.seen (key-shown _ _ _ shape known (was-born c) (kept c still) one two (i .sound .whole .formed _));
-    sums-gone = λ c h one. ap answer.rolled (roll-up-expired _ _ _ shape known (was-born c) one (past c h));
+    key-gone = λ c h one two. ap answer.seen (key-expired _ _ _ shape (recorded .known) (is-born recorded c) one two (is-gone recorded c h));
+    key-shown = λ c still one two. ap answer.seen
+        (key-shown _ _ _ shape (recorded .known) (is-born recorded c) (is-kept recorded c still) one two (i .sound .whole .formed _));
+    sums-gone = λ c h one. ap answer.rolled (roll-up-expired _ _ _ shape (recorded .known) (is-born recorded c) one (is-gone recorded c h));
     sums-shown = λ {s} c still one. ap answer.rolled
-        (roll-up-summed _ _ _ shape known (was-born c) (kept c still) one (all-formed _ _ (i .sound .whole .formed))
+        (roll-up-summed _ _ _ shape (recorded .known) (is-born recorded c) (is-kept recorded c still) one (all-formed _ _ (i .sound .whole .formed))
         ∙ rw (i .sound .size, seen-shown (w .state .words) s m));
-    slot-gone = λ c h k. ap answer.seen (slot-expired _ _ _ shape known (was-born c) k (past c h));
-    slot-past = λ c still k l. ap answer.seen (slot-past _ _ _ shape known (was-born c) (kept c still) k (rw (i .sound .size) l));
+    slot-gone = λ c h k. ap answer.seen (slot-expired _ _ _ shape (recorded .known) (is-born recorded c) k (is-gone recorded c h));
+    slot-past = λ c still k l. ap answer.seen (slot-past _ _ _ shape (recorded .known) (is-born recorded c) (is-kept recorded c still) k (rw (i .sound .size) l));
     slot-shown = λ c still k l. ap answer.seen
-        (slot-shown _ _ _ shape known (was-born c) (kept c still) k (rw (i .sound .size) l) (i .sound .whole .formed k));
+        (slot-shown _ _ _ shape (recorded .known) (is-born recorded c) (is-kept recorded c still) k (rw (i .sound .size) l) (i .sound .whole .formed k));
   }

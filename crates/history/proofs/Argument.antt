@@ -1,20 +1,25 @@
 -- What a kind of table supplies for demand 3: its view, what keeps all well with what is lent, that each call is a step of the
--- view, and what its calls answer in terms of the view. From that alone every promise follows (`Promises`). Assumes nothing.
+-- view, and what its calls answer, reads and changes in terms of the view. From that every promise follows (`Promises`).
+-- Assumes nothing.
 use mathlib.Core.Path.{_≡_}
-use mathlib.Core.Bool.{true, false}
+use mathlib.Core.Bool.{Bool, true, false}
+use mathlib.Core.Logic.{_⊎_}
 use mathlib.Core.List.{List, [], _∷_, map}
-use Prim.Native.Nat.{ℕ, _≤_, _<_}
+use Prim.Native.Nat.{ℕ, suc, _≤_, _<_}
 use lib.IntN.{ℤ, pos}
-use Rattle.calls.specs.Terms.{tally, sums}
+use Rattle.calls.specs.Terms.{unlawful, tally, sums}
 use Rattle.calls.specs.Seen as seen
 use Rattle.calls.specs.Rolled as rolled
+use Rattle.calls.specs.Placed as placed
 use Rattle.calls.specs.Calls as answer
 use Rattle.history.specs.Databases.{upTo}
-use Rattle.history.specs.Followed.{Committed}
-use Rattle.history.specs.Kinds.{Kind, Size, World, freshWorld, answerOf, heardOf, next, after, isLoad, NoLoad}
-use Rattle.history.specs.Demand.{IsGone, Runs, Fullness, Changes}
+use Rattle.history.specs.Followed.{current, Committed}
+use Rattle.history.specs.Kinds.{Kind, accepted, Size, World, freshWorld, answerOf, heardOf, next, after, isLoad, NoLoad}
+use Rattle.history.specs.Demand.{IsGone, Runs}
+use Rattle.history.proofs.Databases.{shows}
 use Rattle.history.proofs.Views.{View, Place}
 use Rattle.history.proofs.Invariant.{Inv, Step, same-step, then}
+use Rattle.history.proofs.Fullness.{NoRoom}
 
 -- ---- a world of m slots in which all is well, and a way from a world to another
 pub record Stands {K : Kind} (Sound : ℕ → World K → Type 0) (view : World K → View) (m : ℕ) (w : World K) : Type 0 where
@@ -26,9 +31,7 @@ pub record Went {K : Kind} (Sound : ℕ → World K → Type 0) (view : World K 
   pub step : Step (K .keeps) m (view w) (w .told) (view w′) (w′ .told)
 
 -- ---- what reads of a world answer at a committed version: refused by 4 once it is gone, and else what the view shows
-pub record Reads {K : Kind} (T : View) (m : ℕ) (w : World K) : Type 0 where
-  pub place : ℤ → ℤ → ℕ
-  pub placed : (one two : ℤ) → Place T m one two (place one two)
+pub record Reads {K : Kind} (T : View) (place : ℤ → ℤ → ℕ) (m : ℕ) (w : World K) : Type 0 where
   pub key-gone : {s : ℕ} → Committed (w .told) s → IsGone w s → (one two : ℤ) → answerOf (K .readKey (pos s) one two) w ≡ answer.seen (seen.Refused 4)
   pub key-shown : {s : ℕ} → Committed (w .told) s → (IsGone w s → ⊥) → (one two : ℤ)
       → answerOf (K .readKey (pos s) one two) w ≡ answer.seen (T .shown s (place one two))
@@ -40,20 +43,52 @@ pub record Reads {K : Kind} (T : View) (m : ℕ) (w : World K) : Type 0 where
   pub slot-shown : {s : ℕ} → Committed (w .told) s → (IsGone w s → ⊥) → (k : ℕ) → k < m
       → answerOf (K .readSlot (pos s) k) w ≡ answer.seen (T .shown s k)
 
+-- ---- what changes of a world answer: 8 with no run; in a run 13, and else by whether the key's place shows a row at the run's number
+abbrev pub liveAt : {K : Kind} → View → (ℤ → ℤ → ℕ) → World K → ℤ → ℤ → Bool
+liveAt T place w one two = shows (T .shown (suc (current (w .told))) (place one two))
+
+pub record Idle {K : Kind} (w : World K) (one two : ℤ) : Type 0 where
+  pub insert : (a b : ℤ) → answerOf (K .insert one two a b) w ≡ answer.placed (placed.Refused 8)
+  pub update : (a b : ℤ) → answerOf (K .update one two a b) w ≡ answer.placed (placed.Refused 8)
+  pub delete : answerOf (K .delete one two) w ≡ answer.placed (placed.Refused 8)
+
+-- a slot may be taken exactly when no open version and not the run shows a row of it
+pub record Rooms {K : Kind} (T : View) (m : ℕ) (w : World K) (free : ℕ → Bool) : Type 0 where
+  pub unseen-run : (j : ℕ) → j < m → free j ≡ true → T .shown (suc (current (w .told))) j ≡ seen.NoRow
+  pub unseen : (j : ℕ) → j < m → free j ≡ true → (s : ℕ) → Committed (w .told) s → (IsGone w s → ⊥) → T .shown s j ≡ seen.NoRow
+  pub visible : (j : ℕ) → j < m → free j ≡ false
+      → (shows (T .shown (suc (current (w .told))) j) ≡ true) ⊎ ((s : ℕ) × Committed (w .told) s × (IsGone w s → ⊥) × (shows (T .shown s j) ≡ true))
+
+pub record InRun {K : Kind} (T : View) (place : ℤ → ℤ → ℕ) (m : ℕ) (w : World K) (free : ℕ → Bool) (one two : ℤ) : Type 0 where
+  pub insert-unlawful : (a b : ℤ) → unlawful a b ≡ true → answerOf (K .insert one two a b) w ≡ answer.placed (placed.Refused 13)
+  pub update-unlawful : (a b : ℤ) → unlawful a b ≡ true → answerOf (K .update one two a b) w ≡ answer.placed (placed.Refused 13)
+  pub insert-live : (a b : ℤ) → unlawful a b ≡ false → liveAt T place w one two ≡ true → answerOf (K .insert one two a b) w ≡ answer.placed (placed.Refused 10)
+  pub insert-full : (a b : ℤ) → unlawful a b ≡ false → liveAt T place w one two ≡ false → NoRoom T m free one two
+      → answerOf (K .insert one two a b) w ≡ answer.placed (placed.Refused 12)
+  pub insert-room : (a b : ℤ) → unlawful a b ≡ false → liveAt T place w one two ≡ false → (NoRoom T m free one two → ⊥)
+      → accepted (answerOf (K .insert one two a b) w) ≡ true
+  pub update-live : (a b : ℤ) → unlawful a b ≡ false → liveAt T place w one two ≡ true → accepted (answerOf (K .update one two a b) w) ≡ true
+  pub update-absent : (a b : ℤ) → unlawful a b ≡ false → liveAt T place w one two ≡ false → answerOf (K .update one two a b) w ≡ answer.placed (placed.Refused 11)
+  pub delete-live : liveAt T place w one two ≡ true → accepted (answerOf (K .delete one two) w) ≡ true
+  pub delete-absent : liveAt T place w one two ≡ false → answerOf (K .delete one two) w ≡ answer.placed (placed.Refused 11)
+
 pub record Argument (K : Kind) : Type 1 where
   pub Sound : ℕ → World K → Type 0
   pub view : World K → View
   -- a table has a slot
   pub some : (m : ℕ) (w : World K) → Sound m w → 1 ≤ m
-  -- every call is a step
-  pub makes : (m : ℕ) (w : World K) → Stands Sound view m w → (call : K .Call) → isLoad (heardOf call w) ≡ false → Went Sound view m w (next call w)
-  -- what calls answer
-  pub runs : (m : ℕ) (w : World K) → Stands Sound view m w → Runs w
-  pub reads : (m : ℕ) (w : World K) → Stands Sound view m w → Reads (view w) m w
-  pub fullness : (m : ℕ) (w : World K) → Stands Sound view m w → Fullness m w
-  pub changes : (m : ℕ) (w : World K) → Stands Sound view m w → (one two : ℤ) → Changes w one two
-  -- a fresh start
+  -- a fresh start, and every call is a step
   pub fresh : (m : ℕ) → Size m → Stands Sound view m (freshWorld K m)
+  pub makes : (m : ℕ) (w : World K) → Stands Sound view m w → (call : K .Call) → isLoad (heardOf call w) ≡ false → Went Sound view m w (next call w)
+  -- what calls answer: the place of a key, and whether a slot may be taken
+  pub place : World K → ℤ → ℤ → ℕ
+  pub free : World K → ℕ → Bool
+  pub placed : (m : ℕ) (w : World K) → Stands Sound view m w → (one two : ℤ) → Place (view w) m one two (place w one two)
+  pub runs : (m : ℕ) (w : World K) → Stands Sound view m w → Runs w
+  pub reads : (m : ℕ) (w : World K) → Stands Sound view m w → Reads (view w) (place w) m w
+  pub idle : (m : ℕ) (w : World K) → Stands Sound view m w → w .told .active ≡ false → (one two : ℤ) → Idle w one two
+  pub rooms : (m : ℕ) (w : World K) → Stands Sound view m w → w .told .active ≡ true → Rooms (view w) m w (free w)
+  pub in-run : (m : ℕ) (w : World K) → Stands Sound view m w → w .told .active ≡ true → (one two : ℤ) → InRun (view w) (place w) m w (free w) one two
 
 module _ {K : Kind} (A : Argument K) where
   abbrev pub Well : ℕ → World K → Type 0

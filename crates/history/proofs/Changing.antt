@@ -1,13 +1,14 @@
--- When the table of two versions accepts a change, where all is well and a run is active: a key is live exactly when the running
--- database holds it; and a slot is free exactly when neither current nor the run's number shows a row of it, so that there is no
--- slot to take exactly when the two databases hold as many keys as there are slots, this key in neither. Assumes nothing.
+-- What changes of the table of two versions answer where all is well: the shape, the record and the key's slot are sound, so that
+-- what is left to test are the run, the totals, the key and the room. A key is live exactly when its slot shows a row at the run's
+-- number; a slot is free exactly when neither current nor the run's number shows a row of it. Assumes nothing.
 use mathlib.Core.Path.{_≡_, refl, sym, ap, _∙_}
-use mathlib.Core.Bool.{true, not, or-true, _||_}
-use mathlib.Core.Logic.{⊎-elim}
-use mathlib.Core.List.{List, [], _∷_}
+use mathlib.Core.Bool.{Bool, true, false, not}
+use mathlib.Core.Logic.{⊎-elim, inl, inr}
+use mathlib.Core.List.{List}
 use Prim.Native.Nat.{ℕ, suc}
+use native.Mathlib.Omega.{arith}
 use lib.Dec.{ltb}
-use lib.IntN.{ℤ, pos}
+use lib.IntN.{ℤ}
 use borrow.Author.Tests.{ltb-true, ltb-false}
 use Rattle.laws.specs.Tests.{by-test, clash}
 use Rattle.laws.specs.First.{skip, hit, done}
@@ -22,8 +23,6 @@ use Rattle.table.specs.FormedLaws.{formed-cases, dead-deleted}
 use Rattle.searches.specs.Keys.{keySlot, keyed, keyLive}
 use Rattle.searches.specs.KeyLaws.{keySlot-is, absent-nowhere}
 use Rattle.searches.specs.Free.{free}
-use Rattle.reads.specs.declared.Seen.{Seen}
-use Rattle.reads.specs.declared.Seen.the-variants as seen
 use Rattle.reads.specs.Table1.{shown}
 use Rattle.reads.specs.Table1Laws.{shown-current, shown-deleted, shown-empty}
 use Rattle.changes.specs.Effects.{run-within}
@@ -33,24 +32,33 @@ use Rattle.changes.specs.Refused.{busy-seen, insert-refused, update-refused, de
 use Rattle.changes.specs.Outcomes.{insert-refuses, insert-accepts, update-refuses, update-accepts, delete-refuses, delete-accepts}
 use Rattle.changes.specs.Insert.{noSlot}
 use Rattle.calls.specs.Calls as answer
-use Rattle.history.specs.Databases.{holds}
-use Rattle.history.specs.Followed.{current, running}
+use Rattle.history.specs.Followed.{current}
 use Rattle.history.specs.Kinds.{accepted}
-use Rattle.history.specs.Demand.{Fullness, IsFull, Changes}
 use Rattle.history.proofs.Databases.{shows}
 use Rattle.history.proofs.Growth.{current-committed}
 use Rattle.history.proofs.Invariant.{current-open}
-use Rattle.history.proofs.Reading.{key-live}
-use Rattle.history.proofs.Fullness.{either, AllOpen, NoRoom, full-room, room-full}
-use Rattle.history.proofs.Recorded.{run-is}
-use Rattle.history.proofs.Table.{viewOf, key-place}
-use Rattle.history.proofs.Steps.{TableWorld, Well}
+use Rattle.history.proofs.Fullness.{NoRoom}
+use Rattle.history.proofs.Recorded.{Recorded, run-is}
+use Rattle.history.proofs.Argument.{Idle, Rooms, InRun, liveAt}
+use Rattle.history.proofs.Steps.{TableWorld, worldView, Well}
 
-either-shows : (one other : Seen) → shows (either one other) ≡ shows one || shows other
-either-shows (seen.Row p q a b) other = refl
-either-shows seen.NoRow other = refl
-either-shows (seen.Refused n) other = refl
+-- whether the slot at a place may be taken
+abbrev pub freeAt : TableWorld → ℕ → Bool
+freeAt w j = free (slotAt (w .state .words) j) (w .state .version)
 
+-- ---- with no run active
+pub idle : (m : ℕ) (w : TableWorld) → Well m w → w .told .active ≡ false → (one two : ℤ) → Idle w one two
+idle m w i no-run one two =
+    let shape = i .sound .whole .shape in
+    let known = i .sound .recorded .known in
+    let e = i .sound .recorded .active ∙ no-run in
+    record {
+      insert = λ a b. ap answer.placed (insert-refuses _ _ one two a b 7 (insert-idle _ _ shape known e one two a b) .answer);
+      update = λ a b. ap answer.placed (update-refuses _ _ one two a b 7 (update-idle _ _ shape known e one two a b) .answer);
+      delete = ap answer.placed (delete-refuses _ _ one two 7 (delete-idle _ _ shape known e one two) .answer);
+    }
+
+-- ---- during a run
 module _ (m : ℕ) (w : TableWorld) (i : Well m w) (a : w .told .active ≡ true) where
   abbrev t : List ℤ
   t = w .state .words
@@ -58,92 +66,72 @@ module _ (m : ℕ) (w : TableWorld) (i : Well m w) (a : w .told .active ≡ true
   abbrev v : Version
   v = w .state .version
 
+  recorded : Recorded v (w .told)
+  recorded = i .sound .recorded
+
   runs : v .active ≡ true
-  runs = i .sound .recorded .active ∙ a
+  runs = recorded .active ∙ a
 
   -- a slot shows a row at the run's number exactly when it is live
   slot-live : (x : Slot) → wellFormed x v ≡ true → shows (shown (runNumber v) x) ≡ live x
   slot-live x f =
       formed-cases x v f (λ e. rw (e, shown-empty (runNumber v), dead-empty))
-      (λ u. let r = run-within v (i .sound .recorded .known) runs u in
+      (λ u. let r = run-within v (recorded .known) runs u in
       by-test (live x) (λ y. rw (shown-current (runNumber v) x r y, y)) (λ n. rw (shown-deleted (runNumber v) x r (dead-deleted x v u n), n)))
 
-  live-is : (one two : ℤ) → keyLive t one two ≡ holds one two (running (w .told))
-  live-is one two =
-      sym (slot-live (keyed t one two) (i .sound .whole .formed (keySlot t one two)))
-      ∙ rw (run-is (i .sound .recorded)) at (key-live (i .inv) a (key-place (i .sound) one two))
+  live-is : (one two : ℤ) → keyLive t one two ≡ liveAt (worldView w) (keySlot t) w one two
+  live-is one two = sym (slot-live (keyed t one two) (i .sound .whole .formed (keySlot t one two))) ∙ rw (run-is recorded)
 
-  -- ---- a slot is not free exactly when it shows a row at one of the two versions
-  taken : (j : ℕ) → shows (either (shown (pos (current (w .told))) (slotAt t j)) (shown (pos (suc (current (w .told)))) (slotAt t j))) ≡ not (free (slotAt t j) v)
-  taken j =
-      let x = slotAt t j in
-      rw (run-is (i .sound .recorded), ← i .sound .recorded .version)
-      (either-shows (shown (v .current) x) (shown (runNumber v) x)
-      ∙ by-test (free x v)
-      (λ y. let u = free-unseen v (i .sound .recorded .known) runs x y in rw (u .0, u .1, y))
-      (λ n. rw n (⊎-elim (λ e. rw e (or-true (shows (shown (v .current) x)))) (λ e. rw e)
-      (busy-seen t v (i .sound .whole) (i .sound .recorded .known) runs x (i .sound .whole .formed j) n))))
+  pub rooms : Rooms (worldView w) m w (freeAt w)
+  rooms = record {
+    unseen-run = λ j l y. rw (run-is recorded) (free-unseen v (recorded .known) runs (slotAt t j) y .1);
+    unseen = λ j l y s c still.
+        let e : s ≡ current (w .told) = omega (arith, i .inv .in-run a) in
+        rw (e, ← recorded .version) (free-unseen v (recorded .known) runs (slotAt t j) y .0);
+    visible = λ j l n. ⊎-elim (λ e. inl (rw (run-is recorded) (ap shows e)))
+        (λ e. inr (current (w .told), current-committed (w .told), current-open (i .inv), rw (← recorded .version) (ap shows e)))
+        (busy-seen t v (i .sound .whole) (recorded .known) runs (slotAt t j) (i .sound .whole .formed j) n);
+  }
 
   -- ---- no slot to take is no room
-  abbrev Room : ℤ → ℤ → Type 0
-  Room one two = NoRoom (viewOf t) m (λ j. free (slotAt t j) v) one two
-
-  current-alone : AllOpen 2 (w .told) (current (w .told) ∷ [])
-  current-alone = (current-committed (w .told), current-open (i .inv), tt)
-
-  no-slot : (one two : ℤ) → Room one two → noSlot t v one two ≡ true
+  no-slot : (one two : ℤ) → NoRoom (worldView w) m (freeAt w) one two → noSlot t v one two ≡ true
   no-slot one two r =
-      refused.not-full t v (i .sound .whole) (i .sound .recorded .known) runs one two
+      refused.not-full t v (i .sound .whole) (recorded .known) runs one two
       (record {
         absent = by-test (ltb (keySlot t one two) (slots t))
             (λ y. let l = ltb-true _ _ y in clash (keySlot-is t one two .passes l) (r .absent _ (rw (i .sound .size) at l))) (ltb-false _ _);
         taken = λ j l. r .taken j (rw (i .sound .size) at l);
       })
 
-  no-room : (one two : ℤ) → noSlot t v one two ≡ true → Room one two
+  no-room : (one two : ℤ) → noSlot t v one two ≡ true → NoRoom (worldView w) m (freeAt w) one two
   no-room one two h =
-      let f = refused.full t v (i .sound .whole) (i .sound .recorded .known) runs one two h in
+      let f = refused.full t v (i .sound .whole) (recorded .known) runs one two h in
       record {
         absent = λ j l. absent-nowhere t one two (i .sound .whole .shape) (f .absent) j;
         taken = λ j l. f .taken j (rw (i .sound .size) l);
       }
 
-  is-full : (one two : ℤ) → IsFull m w one two → Room one two
-  is-full one two = full-room (i .inv) a (current (w .told) ∷ []) current-alone (λ j. free (slotAt t j) v) (λ j l. taken j) one two
-
-  full-is : (one two : ℤ) → Room one two → IsFull m w one two
-  full-is one two = room-full (i .inv) a (current (w .told) ∷ []) current-alone (λ j. free (slotAt t j) v) (λ j l. taken j) one two
-
-pub fullness : (m : ℕ) (w : TableWorld) → Well m w → Fullness m w
-fullness m w i a one two x y lawful absent =
-    let r = runs m w i a in
-    let refusal = insert-refused _ _ (i .sound .whole) (i .sound .recorded .known) r one two x y ∙ skip 13 _ lawful ∙ skip 10 _ (live-is m w i a one two ∙ absent) in
-    record {
-      full = λ f. ap answer.placed (insert-refuses _ _ one two x y 11 (refusal ∙ hit _ (no-slot m w i a one two (is-full m w i a one two f))) .answer);
-      room = λ room. ap (λ p. accepted (answer.placed p))
-          (insert-accepts _ _ one two x y
-          (refusal
-          ∙ skip 12 _ (by-test (noSlot _ _ one two) (λ z. absurd (room (full-is m w i a one two (no-room m w i a one two z)))) (λ n. n))
-          ∙ done) .answer);
-    }
-
--- ---- every change, with no run active and during a run
-pub changes-kept : (m : ℕ) (w : TableWorld) → Well m w → (one two : ℤ) → Changes w one two
-changes-kept m w i one two =
-    let sound = i .sound .recorded in
-    let whole = i .sound .whole in
-    record {
-      insert-idle = λ idle x y. ap answer.placed (insert-refuses _ _ one two x y 7 (insert-idle _ _ (whole .shape) (sound .known) (sound .active ∙ idle) one two x y) .answer);
-      update-idle = λ idle x y. ap answer.placed (update-refuses _ _ one two x y 7 (update-idle _ _ (whole .shape) (sound .known) (sound .active ∙ idle) one two x y) .answer);
-      delete-idle = λ idle. ap answer.placed (delete-refuses _ _ one two 7 (delete-idle _ _ (whole .shape) (sound .known) (sound .active ∙ idle) one two) .answer);
-      insert-unlawful = λ a x y bad. ap answer.placed (insert-refuses _ _ one two x y 12 (insert-refused _ _ whole (sound .known) (runs m w i a) one two x y ∙ hit _ bad) .answer);
-      update-unlawful = λ a x y bad. ap answer.placed (update-refuses _ _ one two x y 12 (update-refused _ _ whole (sound .known) (runs m w i a) one two x y ∙ hit _ bad) .answer);
-      insert-live = λ a x y lawful holds. ap answer.placed
-          (insert-refuses _ _ one two x y 9 (insert-refused _ _ whole (sound .known) (runs m w i a) one two x y ∙ skip 13 _ lawful ∙ hit _ (live-is m w i a one two ∙ holds)) .answer);
-      update-live = λ a x y lawful holds. ap (λ p. accepted (answer.placed p))
-          (update-accepts _ _ one two x y (update-refused _ _ whole (sound .known) (runs m w i a) one two x y ∙ skip 13 _ lawful ∙ skip 11 _ (ap not (live-is m w i a one two ∙ holds)) ∙ done) .answer);
-      update-absent = λ a x y lawful holds. ap answer.placed
-          (update-refuses _ _ one two x y 10 (update-refused _ _ whole (sound .known) (runs m w i a) one two x y ∙ skip 13 _ lawful ∙ hit _ (ap not (live-is m w i a one two ∙ holds))) .answer);
-      delete-live = λ a holds. ap (λ p. accepted (answer.placed p)) (delete-accepts _ _ one two (delete-refused _ _ whole (sound .known) (runs m w i a) one two ∙ skip 11 _ (ap not (live-is m w i a one two ∙ holds)) ∙ done) .answer);
-      delete-absent = λ a holds. ap answer.placed (delete-refuses _ _ one two 10 (delete-refused _ _ whole (sound .known) (runs m w i a) one two ∙ hit _ (ap not (live-is m w i a one two ∙ holds))) .answer);
-    }
+  pub in-run : (one two : ℤ) → InRun (worldView w) (keySlot t) m w (freeAt w) one two
+  in-run one two =
+      let whole = i .sound .whole in
+      let known = recorded .known in
+      let live = live-is one two in
+      record {
+        insert-unlawful = λ x y bad. ap answer.placed (insert-refuses _ _ one two x y 12 (insert-refused _ _ whole known runs one two x y ∙ hit _ bad) .answer);
+        update-unlawful = λ x y bad. ap answer.placed (update-refuses _ _ one two x y 12 (update-refused _ _ whole known runs one two x y ∙ hit _ bad) .answer);
+        insert-live = λ x y lawful h. ap answer.placed
+            (insert-refuses _ _ one two x y 9 (insert-refused _ _ whole known runs one two x y ∙ skip 13 _ lawful ∙ hit _ (live ∙ h)) .answer);
+        insert-full = λ x y lawful h r. ap answer.placed
+            (insert-refuses _ _ one two x y 11 (insert-refused _ _ whole known runs one two x y ∙ skip 13 _ lawful ∙ skip 10 _ (live ∙ h) ∙ hit _ (no-slot one two r)) .answer);
+        insert-room = λ x y lawful h room. ap (λ p. accepted (answer.placed p))
+            (insert-accepts _ _ one two x y
+            (insert-refused _ _ whole known runs one two x y ∙ skip 13 _ lawful ∙ skip 10 _ (live ∙ h)
+            ∙ skip 12 _ (by-test (noSlot t v one two) (λ z. absurd (room (no-room one two z))) (λ n. n)) ∙ done) .answer);
+        update-live = λ x y lawful h. ap (λ p. accepted (answer.placed p))
+            (update-accepts _ _ one two x y (update-refused _ _ whole known runs one two x y ∙ skip 13 _ lawful ∙ skip 11 _ (ap not (live ∙ h)) ∙ done) .answer);
+        update-absent = λ x y lawful h. ap answer.placed
+            (update-refuses _ _ one two x y 10 (update-refused _ _ whole known runs one two x y ∙ skip 13 _ lawful ∙ hit _ (ap not (live ∙ h))) .answer);
+        delete-live = λ h. ap (λ p. accepted (answer.placed p))
+            (delete-accepts _ _ one two (delete-refused _ _ whole known runs one two ∙ skip 11 _ (ap not (live ∙ h)) ∙ done) .answer);
+        delete-absent = λ h. ap answer.placed (delete-refuses _ _ one two 10 (delete-refused _ _ whole known runs one two ∙ hit _ (ap not (live ∙ h))) .answer);
+      }

@@ -27,7 +27,7 @@ neither false b e = (refl, e)
 or-swap : (a b c : Bool) → a || (b || c) ≡ b || (a || c)
 or-swap a b c = sym (or-assoc a b c) ∙ rw (or-comm a b) (or-assoc b a c)
 
-and-both : (a b : Bool) → a && b ≡ true → (a ≡ true) × (b ≡ true)
+pub and-both : (a b : Bool) → a && b ≡ true → (a ≡ true) × (b ≡ true)
 and-both true b e = (refl, e)
 and-both false b e = clash e refl
 

@@ -1,23 +1,24 @@
--- When there is no room: the keys that the databases of open versions and the running one hold together are those of the slots
+-- When there is no room: the keys that the databases of the open versions and the running one hold together are those of the slots
 -- that show a row at one of these versions. Where these are the slots that are not free, they number the slots exactly when
--- none is free. By counting, slot by slot. Assumes nothing.
+-- none is free. By counting, slot by slot. And for two versions the open one in a run is current. Assumes nothing.
 use mathlib.Core.Path.{_≡_, refl, sym, ap, ap₂, _∙_}
-use mathlib.Core.Bool.{Bool, true, false, cond, not}
+use mathlib.Core.Bool.{Bool, true, false, cond, not, _&&_, _||_, or-true}
+use mathlib.Core.Logic.{_⊎_, ⊎-elim}
 use mathlib.Core.List.{List, [], _∷_, _++_, map, List·Permᴰ, Permᴰ·symm, Permᴰ·append-left, Permᴰ·append-right}
 use mathlib.Core.List as L
 use Prim.Native.Nat.{ℕ, zero, suc, _+_, _≤_, _<_}
 use native.Mathlib.Omega.{arith}
-use lib.Dec.{eqb}
+use lib.Dec.{eqb, leb}
 use lib.IntN.{ℤ}
 use lib.ListN.{length, length-append}
-use borrow.Author.Tests.{eqb-true, eqb-false}
+use borrow.Author.Tests.{eqb-true, eqb-false, leb-true, le-leb, lt-leb}
 use Rattle.laws.specs.Tests.{by-test, clash, not-yes}
 use Rattle.laws.specs.Repeats.{permᴰ-length}
 use Rattle.calls.specs.Seen.{Seen}
 use Rattle.calls.specs.Seen as seen
 use Rattle.history.specs.Databases.{Database, holds, beside, together, allTogether, rowsOf, upTo}
-use Rattle.history.specs.Followed.{Followed, current, databaseAt, running, Committed, Gone}
-use Rattle.history.proofs.Databases.{holds-perm, beside-perm, shows}
+use Rattle.history.specs.Followed.{Followed, current, databaseAt, running, Committed, Gone, isOpen, openOf, openVersions}
+use Rattle.history.proofs.Databases.{and-both, holds-perm, beside-perm, shows}
 use Rattle.history.proofs.Rows.{rowsFor, front, rows-lack, rows-hold}
 use Rattle.history.proofs.Views.{View, Distinct, Owned, by-row, lacks, holds-own, held-here}
 use Rattle.history.proofs.Invariant.{Inv}
@@ -85,6 +86,70 @@ anyShown T (s ∷ ss) run k = either (T .shown s k) (anyShown T ss run k)
 abbrev pub AllOpen : ℕ → Followed → List ℕ → Type 0
 AllOpen n g [] = Unit {0}
 AllOpen n g (s ∷ ss) = Committed g s × (Gone n g s → ⊥) × AllOpen n g ss
+
+-- ---- the open versions: each is committed and not gone, and each such is one of them
+module _ (n : ℕ) (g : Followed) where
+  is-open : (s : ℕ) → isOpen n g s ≡ true → (g .origin ≤ s) × (Gone n g s → ⊥)
+  is-open s h =
+      let x = and-both (leb (g .origin) s) (not (leb (s + n) (g .begun))) h in
+      (leb-true (g .origin) s (x .0), λ gone. clash (le-leb (s + n) (g .begun) gone) (not-yes (x .1)))
+
+  open-is : (s : ℕ) → g .origin ≤ s → (Gone n g s → ⊥) → isOpen n g s ≡ true
+  open-is s from kept = ap₂ _&&_ (le-leb (g .origin) s from) (ap not (lt-leb (s + n) (g .begun) (omega arith)))
+
+  all-open : (b : ℕ) → b ≤ suc (current g) → AllOpen n g (openOf n g (upTo b))
+  all-open zero l = tt
+  all-open (suc b) l =
+      by-test (isOpen n g b)
+      (λ y. let x = is-open b y in rw y (record { from = x .0; to = omega arith }, x .1, all-open b (omega arith)))
+      (λ e. rw e (all-open b (omega arith)))
+
+pub open-versions : (n : ℕ) (g : Followed) → AllOpen n g (openVersions n g)
+open-versions n g = all-open n g (suc (current g)) (omega arith)
+
+-- a slot shows a row at one of several versions if it does at the run's number or at one of them, and none if it does at none
+either-shows : (one other : Seen) → shows (either one other) ≡ shows one || shows other
+either-shows (seen.Row p q a b) other = refl
+either-shows seen.NoRow other = refl
+either-shows (seen.Refused n) other = refl
+
+module _ (T : View) (n : ℕ) (g : Followed) (run j : ℕ) where
+  any-none : (ss : List ℕ) → AllOpen n g ss → ((s : ℕ) → Committed g s → (Gone n g s → ⊥) → T .shown s j ≡ seen.NoRow) → T .shown run j ≡ seen.NoRow
+      → anyShown T ss run j ≡ seen.NoRow
+  any-none [] each none run-none = run-none
+  any-none (s ∷ ss) each none run-none = rw (none s (each .0) (each .1)) (any-none ss (each .2) none run-none)
+
+  any-run : (ss : List ℕ) → shows (T .shown run j) ≡ true → shows (anyShown T ss run j) ≡ true
+  any-run [] h = h
+  any-run (s ∷ ss) h = either-shows (T .shown s j) (anyShown T ss run j) ∙ rw (any-run ss h) (or-true (shows (T .shown s j)))
+
+  any-in : (b s : ℕ) → s < b → isOpen n g s ≡ true → shows (T .shown s j) ≡ true → shows (anyShown T (openOf n g (upTo b)) run j) ≡ true
+  any-in zero s l o h = absurd (omega arith)
+  any-in (suc b) s l o h =
+      by-test (eqb s b)
+      (λ y. let e : s ≡ b = eqb-true s b y in rw (rw e at o) (either-shows (T .shown b j) _ ∙ rw (rw e at h)))
+      (λ ne. let rest = any-in b s (omega (arith, eqb-false s b ne)) o h in
+      by-test (isOpen n g b) (λ y. rw y (either-shows (T .shown b j) _ ∙ rw rest (or-true (shows (T .shown b j))))) (λ e. rw e rest))
+
+  -- so where a slot is free exactly when none shows a row of it
+  pub taken-open : (free : Bool) → (free ≡ true → T .shown run j ≡ seen.NoRow)
+      → (free ≡ true → (s : ℕ) → Committed g s → (Gone n g s → ⊥) → T .shown s j ≡ seen.NoRow)
+      → (free ≡ false → (shows (T .shown run j) ≡ true) ⊎ ((s : ℕ) × Committed g s × (Gone n g s → ⊥) × (shows (T .shown s j) ≡ true)))
+      → shows (anyShown T (openVersions n g) run j) ≡ not free
+  taken-open true unseen-run unseen visible = ap shows (any-none (openVersions n g) (open-versions n g) (unseen refl) (unseen-run refl))
+  taken-open false unseen-run unseen visible =
+      ⊎-elim (any-run (openVersions n g))
+      (λ x. any-in (suc (current g)) (x .0) (omega (arith, x .1 .to)) (open-is n g (x .0) (x .1 .from) (x .2)) (x .3)) (visible refl)
+
+-- ---- of two versions the one that is open in a run is current: those before it are gone
+module _ (g : Followed) (in-run : g .begun ≡ suc (current g)) where
+  none-before : (b : ℕ) → b ≤ current g → openOf 2 g (upTo b) ≡ []
+  none-before zero l = refl
+  none-before (suc b) l =
+      by-test (isOpen 2 g b) (λ y. absurd (is-open 2 g b y .1 (omega arith))) (λ e. rw e (none-before b (omega arith)))
+
+  pub current-alone : openVersions 2 g ≡ current g ∷ []
+  current-alone = rw (open-is 2 g (current g) (omega arith) (λ h. omega arith), none-before (current g) (omega arith))
 
 either-owned : (has : ℤ → ℤ → Bool) (one other : Seen) → Owned has one → Owned has other → Owned has (either one other)
 either-owned has (seen.Row p q a b) other x y = x

@@ -1,7 +1,7 @@
 -- What is followed only grows: runs that have begun, databases committed; a committed database is never altered, since a run adds
--- to the end of the log. One lemma for each thing that happens in a history: a change, a begin, a commit, and a run given up. And
--- a run makes its database of the one before. By induction on the runs. Assumes nothing.
-use mathlib.Core.Path.{_≡_, refl, sym, _∙_}
+-- to the end of the log: so after a change and after a run given up, which touch no run that was committed, after a begin, and
+-- after a commit. And a run makes its database of the one before. By induction on the runs. Assumes nothing.
+use mathlib.Core.Path.{_≡_, refl, ap, _∙_}
 use mathlib.Core.Bool.{Bool, false}
 use mathlib.Core.List.{List, [], _∷_, _++_}
 use Prim.Native.Nat.{ℕ, zero, suc, _-_, _≤_, _<_}
@@ -9,7 +9,7 @@ use native.Mathlib.Omega.{arith}
 use lib.ListN.{length, length-append, getD}
 use lib.Seq.{getD-append-seam}
 use Rattle.history.specs.Databases.{Database, Change, changed, madeBy}
-use Rattle.history.specs.Followed.{Followed, current, changesOf, afterRuns, databaseAt, running, Committed, withChange, runBegun, runCommitted}
+use Rattle.history.specs.Followed.{Followed, current, changesOf, afterRuns, databaseAt, running, Committed, withChange, withChanges, runBegun, runCommitted}
 
 -- ---- the log: what is added at its end leaves what the runs before make; one run more, one change more
 more-runs : (k : ℕ) (runs more : List (List Change)) (d : Database) → k ≤ length runs → afterRuns k (runs ++ more) d ≡ afterRuns k runs d
@@ -67,6 +67,10 @@ runUndone g = record { origin = g .origin; opening = g .opening; runs = g .runs;
 -- one change more makes one more of the running database
 pub running-changed : (g : Followed) (c : Change) → running (withChange c g) ≡ changed c (running g)
 running-changed g c = made-last (g .changes) c (databaseAt g (current g))
+
+pub running-with : (l : List Change) (g : Followed) → running (withChanges l g) ≡ madeBy l (running g)
+running-with [] g = refl
+running-with (c ∷ l) g = running-with l (withChange c g) ∙ ap (madeBy l) (running-changed g c)
 
 -- a begin is of the next run
 pub begin-grows : (g : Followed) → g .begun ≤ suc (current g) → Grows g (runBegun g)

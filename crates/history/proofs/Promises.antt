@@ -1,23 +1,24 @@
 -- From what a kind of table supplies to every promise of demand 3: `kept`, wherever all is well; `from`, after every history from
 -- such a start; `demanded`, after every history from a fresh one. A read answers what the view shows, which is the database's; a
 -- session's answers are readings of the view, whose rows stay while its version does. Assumes nothing.
-use mathlib.Core.Path.{_≡_, refl, sym, ap, subst, _∙_}
-use mathlib.Core.Bool.{true}
+use mathlib.Core.Path.{_≡_, sym, ap, subst, _∙_}
+use mathlib.Core.Bool.{Bool, true, not}
 use mathlib.Core.List.{List, [], _∷_}
-use Prim.Native.Nat.{ℕ}
+use Prim.Native.Nat.{ℕ, suc, _<_}
 use native.Mathlib.Omega.{arith}
-use lib.IntN.{pos}
+use lib.IntN.{ℤ, pos}
 use Rattle.laws.specs.Tests.{by-order, clash}
 use Rattle.calls.specs.Calls as answer
-use Rattle.history.specs.Databases.{NoRepeat, madeBy, rolledUp}
-use Rattle.history.specs.Followed.{freshStart, current, databaseAt, Committed}
-use Rattle.history.specs.Kinds.{Kind, accepted, World, freshWorld, answerOf, next, after, NoLoad}
+use Rattle.history.specs.Databases.{holds, NoRepeat, madeBy, rolledUp}
+use Rattle.history.specs.Followed.{freshStart, current, databaseAt, running, Committed, openVersions, hear}
+use Rattle.history.specs.Kinds.{Kind, accepted, World, freshWorld, next, after, NoLoad}
 use Rattle.history.specs.Sessions.{Turn, mine, other, callsOf, slotsAsked, answersGot, NoneRefused, rowsGot}
-use Rattle.history.specs.Demand.{IsGone, Shows, shows, KeyReads, RollUps, SlotReads, Sessions, Incident, Kept, Demanded}
-use Rattle.history.proofs.Databases.{rolled-perm}
-use Rattle.history.proofs.Growth.{grown, current-committed, run-made}
-use Rattle.history.proofs.Reading.{key-row, slot-row, region-sums, Readings, none, moved, read, session-rows}
-use Rattle.history.proofs.Argument.{Argument, Well, Goes, went-well, after-step}
+use Rattle.history.specs.Demand.{IsGone, Shows, answered, KeyReads, RollUps, SlotReads, Sessions, IsFull, Fullness, Changes, Incident, Databases, Kept, Demanded}
+use Rattle.history.proofs.Databases.{shows, rolled-perm}
+use Rattle.history.proofs.Growth.{grown, current-committed, run-made, running-with, last-database}
+use Rattle.history.proofs.Reading.{key-row, slot-row, region-sums, key-live, Readings, none, moved, read, session-rows}
+use Rattle.history.proofs.Fullness.{anyShown, open-versions, taken-open, NoRoom, full-room, room-full}
+use Rattle.history.proofs.Argument.{Argument, liveAt, Well, went-well, after-step}
 use Rattle.history.proofs.Once.{database-once, running-once, opening-after}
 
 module _ {K : Kind} (A : Argument K) where
@@ -27,7 +28,7 @@ module _ {K : Kind} (A : Argument K) where
         let r = A .reads m w i in
         record {
           gone = λ h. r .key-gone c h one two;
-          kept = λ still. r .key-shown c still one two ∙ ap answer.seen (key-row (i .inv) c still (r .placed one two));
+          kept = λ still. r .key-shown c still one two ∙ ap answer.seen (key-row (i .inv) c still (A .placed m w i one two));
         }
 
     roll-ups : RollUps w
@@ -44,7 +45,7 @@ module _ {K : Kind} (A : Argument K) where
         record {
           gone = λ h. r .slot-gone c h k;
           past = λ still. r .slot-past c still k;
-          kept = λ still l. subst (Shows (databaseAt (w .told) s)) (sym (r .slot-shown c still k l)) (shows _ (slot-row (i .inv) c still k l));
+          kept = λ still l. subst (Shows (databaseAt (w .told) s)) (sym (r .slot-shown c still k l)) (answered _ (slot-row (i .inv) c still k l));
           stays = λ h no-load still.
               let x = after-step A m w i h no-load in
               let r′ = A .reads m (after h w) (went-well A x) in
@@ -73,7 +74,46 @@ module _ {K : Kind} (A : Argument K) where
         let x = A .makes m w i call (no-load .0) in
         moved (x .step) (readings turns (next call w) (went-well A x) (grown (x .step .grows) c) (no-load .1) ok)
 
+  -- ---- changes: a key is live exactly when the running database holds it, and there is no room exactly when the table is full
+  module _ (m : ℕ) (w : World K) (i : Well A m w) (a : w .told .active ≡ true) where
+    live-held : (one two : ℤ) → liveAt (A .view w) (A .place w) w one two ≡ holds one two (running (w .told))
+    live-held one two = key-live (i .inv) a (A .placed m w i one two)
+
+    taken : (j : ℕ) → j < m → shows (anyShown (A .view w) (openVersions (K .keeps) (w .told)) (suc (current (w .told))) j) ≡ not (A .free w j)
+    taken j l =
+        let r = A .rooms m w i a in
+        taken-open (A .view w) (K .keeps) (w .told) (suc (current (w .told))) j (A .free w j) (r .unseen-run j l) (r .unseen j l) (r .visible j l)
+
+    full-none : (one two : ℤ) → IsFull m w one two → NoRoom (A .view w) m (A .free w) one two
+    full-none = full-room (i .inv) a (openVersions (K .keeps) (w .told)) (open-versions (K .keeps) (w .told)) (A .free w) taken
+
+    none-full : (one two : ℤ) → NoRoom (A .view w) m (A .free w) one two → IsFull m w one two
+    none-full = room-full (i .inv) a (openVersions (K .keeps) (w .told)) (open-versions (K .keeps) (w .told)) (A .free w) taken
+
   module _ (m : ℕ) (w : World K) (i : Well A m w) where
+    fullness : Fullness m w
+    fullness a one two x y lawful absent =
+        let r = A .in-run m w i a one two in
+        let dead = live-held m w i a one two ∙ absent in
+        record {
+          full = λ f. r .insert-full x y lawful dead (full-none m w i a one two f);
+          room = λ room. r .insert-room x y lawful dead (λ none. room (none-full m w i a one two none));
+        }
+
+    changes : (one two : ℤ) → Changes w one two
+    changes one two = record {
+      insert-idle = λ idle. A .idle m w i idle one two .insert;
+      update-idle = λ idle. A .idle m w i idle one two .update;
+      delete-idle = λ idle. A .idle m w i idle one two .delete;
+      insert-unlawful = λ a. A .in-run m w i a one two .insert-unlawful;
+      update-unlawful = λ a. A .in-run m w i a one two .update-unlawful;
+      insert-live = λ a x y lawful held. A .in-run m w i a one two .insert-live x y lawful (live-held m w i a one two ∙ held);
+      update-live = λ a x y lawful held. A .in-run m w i a one two .update-live x y lawful (live-held m w i a one two ∙ held);
+      update-absent = λ a x y lawful held. A .in-run m w i a one two .update-absent x y lawful (live-held m w i a one two ∙ held);
+      delete-live = λ a held. A .in-run m w i a one two .delete-live (live-held m w i a one two ∙ held);
+      delete-absent = λ a held. A .in-run m w i a one two .delete-absent (live-held m w i a one two ∙ held);
+    }
+
     sessions : Sessions m w
     sessions s c turns x = session-rows (i .inv) (A .some m w (i .sound)) c (readings m s turns w i c (x .no-load) (x .none-refused)) (x .each)
 
@@ -84,6 +124,18 @@ module _ {K : Kind} (A : Argument K) where
         roll-ups m (after h w) (went-well A x) s (grown (x .step .grows) c) region .kept still
         ∙ ap answer.rolled (ap (rolledUp region) (x .step .grows .databases s c) ∙ sym (rolled-perm region (sessions s c turns each)))
 
+    databases : NoRepeat (w .told .opening) → Databases w
+    databases once = record {
+      begun = λ call e. ap (λ x. running (hear x (w .told))) e;
+      changed = λ call l e. ap (λ x. running (hear x (w .told))) e ∙ running-with l (w .told);
+      committed = λ call e. ap (λ x. databaseAt (hear x (w .told)) (suc (current (w .told)))) e ∙ last-database (w .told);
+      made = run-made (w .told);
+      kept = λ s c h no-load. after-step A m w i h no-load .step .grows .databases s c;
+      settled = λ idle. ap (λ l. madeBy l (databaseAt (w .told) (current (w .told)))) (i .inv .settled idle);
+      once = database-once (w .told) once;
+      running-once = running-once (w .told) once;
+    }
+
     -- ---- from all well to every promise
     pub kept : NoRepeat (w .told .opening) → Kept m w
     kept once = record {
@@ -92,16 +144,10 @@ module _ {K : Kind} (A : Argument K) where
       rollUps = roll-ups m w i;
       slotReads = slot-reads m w i;
       sessions = sessions;
-      fullness = A .fullness m w i;
-      changes = A .changes m w i;
+      fullness = fullness;
+      changes = changes;
       incident = incident;
-      databases = record {
-        made = run-made (w .told);
-        kept = λ s c h no-load. after-step A m w i h no-load .step .grows .databases s c;
-        settled = λ idle. ap (λ l. madeBy l (databaseAt (w .told) (current (w .told)))) (i .inv .settled idle);
-        once = database-once (w .told) once;
-        running-once = running-once (w .told) once;
-      };
+      databases = databases once;
     }
 
   -- ---- from a start to every history

@@ -1,6 +1,6 @@
--- The version record in a history: it is sound, says what was followed, and expires a committed version exactly when that is gone
--- from a table that keeps n versions. For the record of two versions a change leaves it so, and so do begin and commit, by the law
--- of expiry. Assumes nothing.
+-- The version record of two versions in a history: it is sound, says what was followed, and expires a committed version exactly
+-- when that is gone. So at a start, at whatever version; a change leaves it so, and so do begin and commit, by the law of expiry.
+-- Assumes nothing.
 use mathlib.Core.Path.{_≡_, refl, sym, ap, _∙_}
 use mathlib.Core.Bool.{true, false}
 use Prim.Native.Nat.{ℕ, suc, _+_, _≤_}
@@ -10,24 +10,29 @@ use lib.Dec.{leb}
 use lib.IntN.{pos, _+ℤ_}
 use borrow.Author.Tests.{le-leb, lt-leb}
 use Rattle.version.specs.declared.Version.{Version}
-use Rattle.version.specs.Record.{badRecord, freshRecord, runNumber}
-use Rattle.version.specs.RecordLaws.{fresh-sound}
+use Rattle.version.specs.Record.{badRecord, runNumber}
 use Rattle.version.specs.Sessions.{unborn, expired}
 use Rattle.version.specs.SessionLaws.{born, expires}
 use Rattle.version.specs.Runs.{beginRefusal, begunFrom, commitRefusal, committedFrom}
 use Rattle.version.specs.RunLaws.{can-commit, begun-sound, committed-sound}
-use Rattle.history.specs.Databases.{Change}
-use Rattle.history.specs.Followed.{Followed, freshStart, current, Committed, Gone, withChange, runBegun, runCommitted}
+use Rattle.history.specs.Databases.{Database, Change}
+use Rattle.history.specs.Followed.{Followed, starting, current, Committed, Gone, withChange, runBegun, runCommitted}
 use Rattle.history.proofs.Growth.{counted}
 
-pub record Recorded (n : ℕ) (v : Version) (g : Followed) : Type 0 where
+pub record Recorded (v : Version) (g : Followed) : Type 0 where
   pub known : badRecord v ≡ false
   pub origin : 1 ≤ g .origin
   pub version : v .current ≡ pos (current g)
   pub active : v .active ≡ g .active
-  pub expiry : (s : ℕ) → Committed g s → expired v (pos s) ≡ leb (s + n) (g .begun)
+  pub expiry : (s : ℕ) → Committed g s → expired v (pos s) ≡ leb (s + 2) (g .begun)
 
-module _ {n : ℕ} {v : Version} {g : Followed} (x : Recorded n v g) where
+-- a start: no run is active, and none after it has begun
+pub start-recorded : {v : Version} (c : ℕ) (d : Database) → badRecord v ≡ false → v .active ≡ false → v .current ≡ pos c → 1 ≤ c → Recorded v (starting c d)
+start-recorded {v} c d known idle version low =
+    let at : v .current ≡ pos (current (starting c d)) = version ∙ ap pos (omega arith) in
+    record { known = known; origin = low; version = at; active = idle; expiry = λ s h. expires v c s version low ∙ rw idle }
+
+module _ {v : Version} {g : Followed} (x : Recorded v g) where
   pub run-is : pos (suc (current g)) ≡ runNumber v
   run-is = ap pos (sym (add-one (current g))) ∙ ap (λ z. z +ℤ pos 1) (sym (x .version))
 
@@ -36,13 +41,13 @@ module _ {n : ℕ} {v : Version} {g : Followed} (x : Recorded n v g) where
     pub is-born : unborn v (pos s) ≡ false
     is-born = born v (current g) s (x .version) (omega (arith, x .origin, c .from)) (c .to)
 
-    pub is-gone : Gone n g s → expired v (pos s) ≡ true
-    is-gone h = x .expiry s c ∙ le-leb (s + n) (g .begun) h
+    pub is-gone : Gone 2 g s → expired v (pos s) ≡ true
+    is-gone h = x .expiry s c ∙ le-leb (s + 2) (g .begun) h
 
-    pub is-kept : (Gone n g s → ⊥) → expired v (pos s) ≡ false
-    is-kept still = x .expiry s c ∙ lt-leb (s + n) (g .begun) (omega arith)
+    pub is-kept : (Gone 2 g s → ⊥) → expired v (pos s) ≡ false
+    is-kept still = x .expiry s c ∙ lt-leb (s + 2) (g .begun) (omega arith)
 
-  pub change-recorded : (c : Change) → Recorded n v (withChange c g)
+  pub change-recorded : (c : Change) → Recorded v (withChange c g)
   change-recorded c = record {
     known = x .known;
     origin = x .origin;
@@ -51,12 +56,7 @@ module _ {n : ℕ} {v : Version} {g : Followed} (x : Recorded n v g) where
     expiry = λ s h. x .expiry s (record { from = h .from; to = h .to });
   }
 
--- ---- the record of two versions
-pub fresh-recorded : Recorded 2 freshRecord freshStart
-fresh-recorded = record { known = fresh-sound; origin = omega arith; version = refl; active = refl; expiry = λ s c. expires freshRecord 1 s refl (omega arith) }
-
-module _ {v : Version} {g : Followed} (x : Recorded 2 v g) where
-  pub begin-recorded : beginRefusal v ≡ 0 → Recorded 2 (begunFrom v) (runBegun g)
+  pub begin-recorded : beginRefusal v ≡ 0 → Recorded (begunFrom v) (runBegun g)
   begin-recorded h = record {
     known = begun-sound v h;
     origin = x .origin;
@@ -69,9 +69,9 @@ module _ {v : Version} {g : Followed} (x : Recorded 2 v g) where
     pub commit-runs : g .active ≡ true
     commit-runs = sym (x .active) ∙ can-commit v h .active
 
-    pub commit-recorded : g .begun ≡ suc (current g) → Recorded 2 (committedFrom v) (runCommitted g)
+    pub commit-recorded : g .begun ≡ suc (current g) → Recorded (committedFrom v) (runCommitted g)
     commit-recorded begun =
-        let version : runNumber v ≡ pos (current (runCommitted g)) = rw (counted g, run-is x) in
+        let version : runNumber v ≡ pos (current (runCommitted g)) = rw (counted g, run-is) in
         record {
           known = committed-sound v h;
           origin = x .origin;

@@ -16,6 +16,7 @@ use Rattle.laws.specs.Tests.{by-test, clash}
 use Rattle.laws.specs.Order.{leZ-refl, leZ-trans, from-to}
 use Rattle.version.specs.declared.Version.{Version}
 use Rattle.version.specs.Record.{freshRecord, runNumber, lastRun}
+use Rattle.version.specs.RecordLaws.{fresh-sound}
 use Rattle.version.specs.Runs.{beginRefusal, begunFrom, commitRefusal, committedFrom}
 use Rattle.version.specs.RunLaws.{can-begin, can-commit}
 use Rattle.table.specs.Slots.{slots, slotAt, freshTable}
@@ -34,7 +35,7 @@ use Rattle.history.specs.Kinds.{Size}
 use Rattle.history.proofs.Views.{View, Owned, Place, here, nowhere, rowsAt}
 use Rattle.history.proofs.Invariant.{Inv, start-inv}
 use Rattle.history.proofs.Written.{Written}
-use Rattle.history.proofs.Recorded.{Recorded, run-is, change-recorded, fresh-recorded, begin-recorded, commit-runs, commit-recorded}
+use Rattle.history.proofs.Recorded.{Recorded, start-recorded, run-is, change-recorded, begin-recorded, commit-runs, commit-recorded}
 
 abbrev pub viewOf : List ℤ → View
 viewOf t = record {
@@ -48,7 +49,7 @@ viewOf t = record {
 pub record Sound (m : ℕ) (t : List ℤ) (v : Version) (g : Followed) : Type 0 where
   pub size : slots t ≡ m
   pub whole : Whole t v
-  pub recorded : Recorded 2 v g
+  pub recorded : Recorded v g
 
 -- ---- a fresh table
 fresh-rows : (n m s : ℕ) → rowsAt (viewOf (freshTable n)) s m ≡ []
@@ -62,7 +63,7 @@ fresh-table m size = record {
     shape = fresh-shape m (size .some) (size .few);
     formed = λ k. rw (fresh-slot m k) (empty-formed freshRecord);
   };
-  recorded = fresh-recorded;
+  recorded = start-recorded 1 [] fresh-sound refl refl (omega arith);
 }
 
 pub fresh-inv : (m : ℕ) → Inv 2 m (viewOf (freshTable m)) freshStart

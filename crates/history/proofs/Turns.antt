@@ -2,7 +2,7 @@
 -- shows, whose rows are the current database, which is the running one; at a commit that number becomes current. A run given up
 -- leaves what the open versions show, and its number has begun. Assumes nothing.
 use mathlib.Core.Path.{_≡_, refl}
-use mathlib.Core.Bool.{true, false}
+use mathlib.Core.Bool.{true}
 use Prim.Native.Nat.{ℕ, suc}
 use native.Mathlib.Omega.{arith}
 use lib.Dec.{eqb}

@@ -8,11 +8,12 @@ use mathlib.Core.List as L
 use Prim.Native.Nat.{ℕ, suc, _<_}
 use lib.Dec.{eqb}
 use lib.IntN.{ℤ}
-use borrow.Author.Tests.{eqb-true, eqb-false}
+use borrow.Author.Tests.{eqb-false}
 use Rattle.laws.specs.Tests.{by-test, clash}
 use Rattle.calls.specs.Seen.{Seen}
 use Rattle.calls.specs.Seen as seen
 use Rattle.changes.specs.Effects.{Own}
+use Rattle.changes.specs.Whole.{by-place}
 use Rattle.history.specs.Databases.{Database, row, without, Change, changed, rowsOf, upTo}
 use Rattle.history.specs.Followed.{Followed, current, running, Committed, Gone, withChange}
 use Rattle.history.proofs.Databases.{without-absent, without-perm, is-key}
@@ -35,9 +36,6 @@ pub record Written (n m : ℕ) (T : View) (g : Followed) (one two : ℤ) (after 
   pub now : T′ .shown (suc (current g)) k ≡ after
   -- it is left with no key, or with this one
   pub key : (p q : ℤ) → T′ .has k p q ≡ true → (p ≡ one) × (q ≡ two)
-
-by-place : {P : Type 0} (j k : ℕ) → (j ≡ k → P) → ((j ≡ k → ⊥) → P) → P
-by-place j k f g = by-test (eqb j k) (λ y. f (eqb-true j k y)) (λ n. g (eqb-false j k n))
 
 -- a row of the key, and no row, are gone without it
 own-gone : (one two : ℤ) (r : Seen) (d : Database) → Own one two r → without one two (rowsOf r ++ d) ≡ without one two d
@@ -69,8 +67,8 @@ module _ {n m : ℕ} {T : View} {g : Followed} (i : Inv n m T g) (a : g .active 
   abbrev rest : Database
   rest = rowsFor (hiding k sees) (upTo m)
 
-  others : List·Permᴰ rest (without one two (running g))
-  others =
+  other-rows : List·Permᴰ rest (without one two (running g))
+  other-rows =
       let e : without one two (rowsOf (sees k) ++ rest) ≡ rest =
       own-gone one two (sees k) rest (w .before) ∙ without-absent one two rest (rest-lacks (i .distinct) sees (T .owned (suc (current g))) k m one two (w .alone)) in
       rw e at (without-perm one two (L.List·Permᴰ·trans (Permᴰ·symm (focus sees k m (w .place))) (i .top a)))
@@ -80,7 +78,7 @@ module _ {n m : ℕ} {T : View} {g : Followed} (i : Inv n m T g) (a : g .active 
       let sees′ = T′ .shown (suc (current g)) in
       let same : rowsFor (hiding k sees′) (upTo m) ≡ rest = rows-same (hiding k sees) (hiding k sees′) m
       (λ j l. by-test (eqb j k) (λ y. rw y refl) (λ ne. rw (ne, w .others j (eqb-false j k ne) (suc (current g))))) in
-      L.List·Permᴰ·trans (rw (w .now, same) at (focus sees′ k m (w .place))) (Permᴰ·append-left (rowsOf after) others)
+      L.List·Permᴰ·trans (rw (w .now, same) at (focus sees′ k m (w .place))) (Permᴰ·append-left (rowsOf after) other-rows)
 
   pub written-step : (c : Change) → changed c (running g) ≡ rowsOf after ++ without one two (running g) → Step n m T g T′ (withChange c g)
   written-step c e = record {

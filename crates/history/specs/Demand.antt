@@ -15,9 +15,9 @@ use Rattle.calls.specs.Rolled as rolled
 use Rattle.calls.specs.Placed as placed
 use Rattle.calls.specs.Calls.{Answer}
 use Rattle.calls.specs.Calls as answer
-use Rattle.history.specs.Databases.{Database, holds, NoRepeat, madeBy, found, IsOf, rolledUp, upTo, allTogether}
-use Rattle.history.specs.Followed.{current, changesOf, databaseAt, running, Committed, Gone}
-use Rattle.history.specs.Kinds.{Kind, accepted, Size, World, freshWorld, answerOf, after, NoLoad}
+use Rattle.history.specs.Databases.{Database, holds, NoRepeat, Change, madeBy, found, IsOf, rolledUp, upTo, allTogether}
+use Rattle.history.specs.Followed.{current, changesOf, databaseAt, running, Committed, Gone, openVersions, wentIn, beganRun, committedRun}
+use Rattle.history.specs.Kinds.{Kind, accepted, Size, World, freshWorld, answerOf, heardOf, next, after, NoLoad}
 use Rattle.history.specs.Sessions.{Turn, callsOf, slotsAsked, answersGot, NoneRefused, rowsGot}
 
 -- the version is gone
@@ -31,7 +31,7 @@ pub record Until {K : Kind} (w : World K) (s : ℕ) (got expired shown : Answer)
 
 -- an answer to a read that shows no row, or a row of the database
 pub data Shows (d : Database) : Answer → Type 0 where
-  shows : (r : Seen) → IsOf d r → Shows d (answer.seen r)
+  answered : (r : Seen) → IsOf d r → Shows d (answer.seen r)
 
 module _ {K : Kind} where
   -- ---- runs: open answers the current version; begin is accepted exactly with no run active and a version left, commit exactly
@@ -82,7 +82,7 @@ module _ {K : Kind} where
   -- ---- during a run, an insert of a key not live, totals lawful, is refused as full exactly when the databases of the open
   -- versions and the running one together hold as many keys as there are slots, this key in none; and else it is accepted
   abbrev pub heldInRun : World K → Database
-  heldInRun w = allTogether (map (databaseAt (w .told)) (K .openInRun (w .told))) (running (w .told))
+  heldInRun w = allTogether (map (databaseAt (w .told)) (openVersions (K .keeps) (w .told))) (running (w .told))
 
   abbrev pub IsFull : ℕ → World K → ℤ → ℤ → Type 0
   IsFull m w one two = (length (heldInRun w) ≡ m) × (holds one two (heldInRun w) ≡ false)
@@ -119,8 +119,12 @@ module _ {K : Kind} where
       → (region : ℤ) → answerOf (K .rollUp (pos s) region) (after h w) ≡ answer.rolled (rolledUp region (rowsGot (answersGot s turns w)))
 
   -- ---- the databases: database v + 1 is what the changes of run v + 1 make of database v, one by one; a committed one is never
-  -- altered; between runs the running one is the current; and no key stands twice in one
+  -- altered; between runs the running one is the current; and no key stands twice in one. Call by call: a run begins with the
+  -- current database; what goes in of a call makes what it says of the running one; and a commit makes that the next
   pub record Databases (w : World K) : Type 0 where
+    pub begun : (call : K .Call) → heardOf call w ≡ beganRun → running (next call w .told) ≡ databaseAt (w .told) (current (w .told))
+    pub changed : (call : K .Call) (l : List Change) → heardOf call w ≡ wentIn l → running (next call w .told) ≡ madeBy l (running (w .told))
+    pub committed : (call : K .Call) → heardOf call w ≡ committedRun → databaseAt (next call w .told) (suc (current (w .told))) ≡ running (w .told)
     pub made : (v : ℕ) → Committed (w .told) v → Committed (w .told) (suc v) → databaseAt (w .told) (suc v) ≡ madeBy (changesOf (w .told) (suc v)) (databaseAt (w .told) v)
     pub kept : (s : ℕ) → Committed (w .told) s → (h : List (K .Call)) → NoLoad h w → databaseAt (after h w .told) s ≡ databaseAt (w .told) s
     pub settled : w .told .active ≡ false → running (w .told) ≡ databaseAt (w .told) (current (w .told))

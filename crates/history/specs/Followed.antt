@@ -1,10 +1,11 @@
 -- What is followed of a history: a log of the changes that went in, run by run, and never the table. A database is what the log
 -- makes of the one that the history starts with: database v is what the changes of the runs up to commit v leave. Assumes nothing.
-use mathlib.Core.Bool.{Bool, true, false}
+use mathlib.Core.Bool.{Bool, true, false, cond, not, _&&_}
 use mathlib.Core.List.{List, [], _∷_, _++_}
 use Prim.Native.Nat.{ℕ, zero, suc, _+_, _-_, _≤_}
+use lib.Dec.{leb}
 use lib.ListN.{length, getD}
-use Rattle.history.specs.Databases.{Database, Change, madeBy}
+use Rattle.history.specs.Databases.{Database, Change, madeBy, upTo}
 
 pub record Followed : Type 0 where
   -- the version that the history starts at, and its database
@@ -31,7 +32,7 @@ freshStart = starting 1 []
 abbrev pub current : Followed → ℕ
 current g = g .origin + length (g .runs)
 
--- the changes of run v
+-- the changes of run v, of the runs after the start
 abbrev pub changesOf : Followed → ℕ → List Change
 changesOf g v = getD (g .runs) (v - suc (g .origin)) []
 
@@ -61,6 +62,17 @@ HasBegun g run = run ≤ g .begun
 -- a version is gone from a table that keeps n versions once run s + n has begun
 abbrev pub Gone : ℕ → Followed → ℕ → Type 0
 Gone n g s = HasBegun g (s + n)
+
+-- the versions that are open, the last first: committed, and not gone
+abbrev pub isOpen : ℕ → Followed → ℕ → Bool
+isOpen n g s = leb (g .origin) s && not (leb (s + n) (g .begun))
+
+abbrev pub openOf : ℕ → Followed → List ℕ → List ℕ
+openOf n g [] = []
+openOf n g (s ∷ l) = cond (isOpen n g s) (s ∷ openOf n g l) (openOf n g l)
+
+abbrev pub openVersions : ℕ → Followed → List ℕ
+openVersions n g = openOf n g (upTo (suc (current g)))
 
 -- ---- what is heard of a call: the changes that went in of it, that it began or committed a run, or that it loaded a block
 pub data Heard : Type 0 where

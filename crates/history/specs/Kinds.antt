@@ -23,8 +23,6 @@ pub record Kind : Type 1 where
   pub heard : Call → Answer → Heard
   -- how many versions it keeps: version s is gone once run s + that many has begun
   pub keeps : ℕ
-  -- the versions that are open during a run
-  pub openInRun : Followed → List ℕ
   -- the calls that demand 3 speaks of
   pub openSession : Call
   pub begin : Call

@@ -1,6 +1,7 @@
 -- The table of eight words to a slot, which keeps two versions, as a kind: its calls are the library's, and what is heard of one is
 -- worked out from its arguments and its answer. Demand 3 is what is demanded of it. Assumes nothing.
-use mathlib.Core.Bool.{cond}
+use mathlib.Core.Path.{_≡_}
+use mathlib.Core.Bool.{true, cond}
 use mathlib.Core.List.{List, [], _∷_}
 use Prim.Native.Nat.{ℕ}
 use lib.ListN.{take}
@@ -8,8 +9,8 @@ use Rattle.calls.specs.Terms.{freshRecord, freshTable}
 use Rattle.calls.specs.Calls.{Call, openSession, begin, commit, readSlot, readKey, rollUp, insert, update, delete, saveHeader, saveBlock, loadHeader, loadBlock, Answer}
 use Rattle.calls.specs.Perform.{State, perform}
 use Rattle.history.specs.Databases.{Change, gives, takesOut}
-use Rattle.history.specs.Followed.{current, Heard, wentIn, nothing, beganRun, committedRun, loadedBlock}
-use Rattle.history.specs.Kinds.{Kind, accepted}
+use Rattle.history.specs.Followed.{current, openVersions, Heard, wentIn, nothing, beganRun, committedRun, loadedBlock}
+use Rattle.history.specs.Kinds.{Kind, accepted, Size, freshWorld, after, NoLoad}
 use Rattle.history.specs.Demand.{Demanded}
 
 -- of the changes that a call asks for, those that went in: one that is accepted, none that is refused
@@ -38,7 +39,6 @@ heardFrom (loadBlock k b) a = ifAccepted a loadedBlock
 abbrev pub freshState : ℕ → State
 freshState m = record { words = freshTable m; version = freshRecord; block = [] }
 
--- during a run the one open version is current
 abbrev pub twoVersions : Kind
 twoVersions = record {
   State = State;
@@ -48,7 +48,6 @@ twoVersions = record {
   left = λ call st. perform call st .state;
   heard = heardFrom;
   keeps = 2;
-  openInRun = λ g. current g ∷ [];
   openSession = openSession;
   begin = begin;
   commit = commit;
@@ -60,5 +59,8 @@ twoVersions = record {
   delete = delete;
 }
 
-abbrev pub Demand3 : Type 0
-Demand3 = Demanded twoVersions
+-- what is demanded of it; and where the demand speaks of the open versions during a run, that is current alone
+pub record Demand3 : Type 0 where
+  pub demanded : Demanded twoVersions
+  pub current-alone : (m : ℕ) → Size m → (h : List Call) → NoLoad h (freshWorld twoVersions m)
+      → let g = after h (freshWorld twoVersions m) .told in g .active ≡ true → openVersions 2 g ≡ current g ∷ []
