@@ -7,6 +7,7 @@ ghost use Rattle.calls.specs.Calls.{openSession, begin, commit, readSlot, readK
 ghost use Rattle.probe.specs.Probed.{lent, outAfter, tableAfter, recordAfter, blockAfter};
 
 mod answers;
+mod lent;
 mod records;
 
 // open: current
@@ -23,7 +24,7 @@ pub extern "C" fn probe_begin(record_words: &mut [i64; 4], out: &mut [i64; 8])
     ensures { λ _. ⌜ now (out .exit) ≡ outAfter begin (lent [] (now (record_words .entry)) []) ⌝ }
     ensures { λ _. ⌜ now (record_words .exit) ≡ recordAfter begin (now (record_words .entry)) (lent [] (now (record_words .entry)) []) ⌝ }
 {
-    let turned = reader::begun(records::version_of(record_words));
+    let turned = lent::begun(records::version_of(record_words));
     let answer = turned.answer;
     records::keep(record_words, turned.version);
     answers::put_numbered(out, answer);
@@ -35,7 +36,7 @@ pub extern "C" fn probe_commit(record_words: &mut [i64; 4], out: &mut [i64; 8])
     ensures { λ _. ⌜ now (out .exit) ≡ outAfter commit (lent [] (now (record_words .entry)) []) ⌝ }
     ensures { λ _. ⌜ now (record_words .exit) ≡ recordAfter commit (now (record_words .entry)) (lent [] (now (record_words .entry)) []) ⌝ }
 {
-    let turned = reader::committed(records::version_of(record_words));
+    let turned = lent::committed(records::version_of(record_words));
     let answer = turned.answer;
     records::keep(record_words, turned.version);
     answers::put_numbered(out, answer);
