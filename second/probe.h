@@ -30,21 +30,21 @@ void probe_read_slot(const int64_t *table, size_t words, const int64_t record[4]
 
 /* Answers a row or no row. */
 void probe_read_key(const int64_t *table, size_t words, const int64_t record[4],
-                    int64_t session, int64_t one, int64_t two, int64_t out[8]);
+                    int64_t session, int64_t key1, int64_t key2, int64_t out[8]);
 
 /* Answers the count of visible rows and both sums. */
 void probe_roll_up(const int64_t *table, size_t words, const int64_t record[4],
-                   int64_t session, int64_t one, int64_t out[8]);
+                   int64_t session, int64_t key1, int64_t out[8]);
 
 /* The three changes answer the slot's number. */
 void probe_insert(int64_t *table, size_t words, const int64_t record[4],
-                  int64_t one, int64_t two, int64_t first, int64_t second,
+                  int64_t key1, int64_t key2, int64_t total1, int64_t total2,
                   int64_t out[8]);
 void probe_update(int64_t *table, size_t words, const int64_t record[4],
-                  int64_t one, int64_t two, int64_t first, int64_t second,
+                  int64_t key1, int64_t key2, int64_t total1, int64_t total2,
                   int64_t out[8]);
 void probe_delete(int64_t *table, size_t words, const int64_t record[4],
-                  int64_t one, int64_t two, int64_t out[8]);
+                  int64_t key1, int64_t key2, int64_t out[8]);
 
 /* The two saves answer no number, and write the block. */
 void probe_save_header(const int64_t *table, size_t words, const int64_t record[4],

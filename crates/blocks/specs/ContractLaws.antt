@@ -4,22 +4,22 @@ use mathlib.Core.List.{List}
 use Prim.Native.Nat.{ℕ, suc}
 use lib.IntN.{ℤ}
 use Rattle.laws.specs.First.{unless, unless-refused, unless-done}
-use Rattle.version.specs.declared.Version.{Version}
-use Rattle.words.specs.Words.{blockOf, zeroBlock}
-use Rattle.words.specs.Longs.{blockSlots}
-use Rattle.loads.specs.Slots.{loadedTo}
+use Rattle.versions.specs.declared.VersionRecord.{VersionRecord}
+use Rattle.blocks_words.specs.Words.{blockOf, zeroBlock}
+use Rattle.blocks_words.specs.Longs.{blockSlots}
+use Rattle.blocks_loads.specs.LoadedSlots.{loadedTo}
 use Rattle.blocks.specs.declared.Saved.{Saved}
 use Rattle.blocks.specs.declared.Header.{Header}
 use Rattle.blocks.specs.declared.Loaded.{Loaded}
 use Rattle.blocks.specs.declared.Loaded.the-variants.{Done}
 use Rattle.blocks.specs.declared.Header.the-variants as header
 use Rattle.blocks.specs.declared.Loaded.the-variants as loaded
-use Rattle.blocks.specs.Headers.{headerWords, headerOf}
-use Rattle.blocks.specs.Slots.{slotBlockWords}
-use Rattle.blocks.specs.SaveHeader.{saveHeaderRefusal, saveHeaderBlock, HeaderSaved}
-use Rattle.blocks.specs.SaveBlock.{saveBlockRefusal, saveBlockBlock, BlockSaved}
-use Rattle.blocks.specs.LoadHeader.{loadHeaderRefusal, loadHeaderAnswer, HeaderLoaded}
-use Rattle.blocks.specs.LoadBlock.{loadBlockRefusal, loadBlockAnswer, loadBlockWords, BlockLoaded}
+use Rattle.blocks.specs.HeaderBlocks.{headerWords, headerOf}
+use Rattle.blocks.specs.SlotBlocks.{slotBlockWords}
+use Rattle.blocks.specs.SaveHeader.{saveHeaderRefusal, saveHeaderBlock, SaveHeaderContract}
+use Rattle.blocks.specs.SaveBlock.{saveBlockRefusal, saveBlockBlock, SaveBlockContract}
+use Rattle.blocks.specs.LoadHeader.{loadHeaderRefusal, loadHeaderAnswer, LoadHeaderContract}
+use Rattle.blocks.specs.LoadBlock.{loadBlockRefusal, loadBlockAnswer, loadBlockWords, LoadBlockContract}
 
 -- ---- a save hands out the refusal's number beside zeros, or 0 beside the block of its words
 pub record Hands (r : Saved) (n : ℕ) (words : List ℕ) : Type 0 where
@@ -34,44 +34,44 @@ pub zeros-handed : {r : Saved} {n : ℕ} (words : List ℕ) → HandsZeros r n �
 zeros-handed words h z = record { refusal = h .refusal; block = h .block ∙ unless-refused (λ m. zeroBlock) (blockOf words) refl z }
 
 -- and so a header or a block is saved
-pub header-saved : {t : List ℤ} {v : Version} {r : Saved} {n : ℕ} → saveHeaderRefusal t v ≡ n → Hands r n (headerWords t v) → HeaderSaved t v r
+pub header-saved : {t : List ℤ} {v : VersionRecord} {r : Saved} {n : ℕ} → saveHeaderRefusal t v ≡ n → Hands r n (headerWords t v) → SaveHeaderContract t v r
 unfolding saveHeaderBlock
 header-saved e h = search (rw (← e) at h)
 
-pub block-saved : {t : List ℤ} {v : Version} {k : ℕ} {r : Saved} {n : ℕ} → saveBlockRefusal t v k ≡ n → Hands r n (slotBlockWords t k) → BlockSaved t v k r
+pub block-saved : {t : List ℤ} {v : VersionRecord} {k : ℕ} {r : Saved} {n : ℕ} → saveBlockRefusal t v k ≡ n → Hands r n (slotBlockWords t k) → SaveBlockContract t v k r
 unfolding saveBlockBlock
 block-saved e h = search (rw (← e) at h)
 
 -- ---- load header
 module _ {block : List ℕ} where
-  pub header-not-loaded : {n : ℕ} → loadHeaderRefusal block ≡ n → (n ≡ 0 → ⊥) → HeaderLoaded block (header.Refused n)
+  pub header-not-loaded : {n : ℕ} → loadHeaderRefusal block ≡ n → (n ≡ 0 → ⊥) → LoadHeaderContract block (header.Refused n)
   unfolding loadHeaderAnswer
   header-not-loaded e z = record { answer = unless-refused header.Refused (headerOf block) e z }
 
-  pub header-loaded : {r : Header} → loadHeaderRefusal block ≡ 0 → r ≡ headerOf block → HeaderLoaded block r
+  pub header-loaded : {r : Header} → loadHeaderRefusal block ≡ 0 → r ≡ headerOf block → LoadHeaderContract block r
   unfolding loadHeaderAnswer
   header-loaded e h = search unless-done
 
 -- ---- load block
-module _ {t : List ℤ} {v : Version} {k : ℕ} {block : List ℕ} where
-  pub block-not-loaded : {n : ℕ} → loadBlockRefusal t v k block ≡ n → (n ≡ 0 → ⊥) → BlockLoaded t v k block (loaded.Refused n) t
+module _ {t : List ℤ} {v : VersionRecord} {k : ℕ} {block : List ℕ} where
+  pub block-not-loaded : {n : ℕ} → loadBlockRefusal t v k block ≡ n → (n ≡ 0 → ⊥) → LoadBlockContract t v k block (loaded.Refused n) t
   unfolding loadBlockAnswer loadBlockWords
   block-not-loaded e z = record {
     answer = unless-refused loaded.Refused Done e z;
     words = unless-refused (λ n. t) (loadedTo t k block blockSlots) e z;
   }
 
-  pub block-loaded : {u : List ℤ} → loadBlockRefusal t v k block ≡ 0 → u ≡ loadedTo t k block blockSlots → BlockLoaded t v k block Done u
+  pub block-loaded : {u : List ℤ} → loadBlockRefusal t v k block ≡ 0 → u ≡ loadedTo t k block blockSlots → LoadBlockContract t v k block Done u
   unfolding loadBlockAnswer loadBlockWords
   block-loaded e h = search unless-done
 
 -- ---- what comes of a load of a block by its refusal: one that is refused leaves the words
-pub record Refuses (n : ℕ) (t : List ℤ) (r : Loaded) (t′ : List ℤ) : Type 0 where
+pub record LoadRefuses (n : ℕ) (t : List ℤ) (r : Loaded) (t′ : List ℤ) : Type 0 where
   pub answer : r ≡ loaded.Refused n
   pub words : t′ ≡ t
 
-module _ (t : List ℤ) (v : Version) (k : ℕ) (block : List ℕ) where
-  pub load-refuses : (n : ℕ) → loadBlockRefusal t v k block ≡ suc n → Refuses (suc n) t (loadBlockAnswer t v k block) (loadBlockWords t v k block)
+module _ (t : List ℤ) (v : VersionRecord) (k : ℕ) (block : List ℕ) where
+  pub load-refuses : (n : ℕ) → loadBlockRefusal t v k block ≡ suc n → LoadRefuses (suc n) t (loadBlockAnswer t v k block) (loadBlockWords t v k block)
   unfolding loadBlockAnswer loadBlockWords
   load-refuses n h = record { answer = rw h; words = rw h }
 

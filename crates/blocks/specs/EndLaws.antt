@@ -8,10 +8,10 @@ use lib.IntN.{ℤ}
 use lib.ListN.{length}
 use borrow.Author.Tests.{ne-eqb}
 use Rattle.laws.specs.First.{first, pass, skip, hit, done}
-use Rattle.version.specs.declared.Version.{Version}
-use Rattle.words.specs.Words.{blockBytes, notBlock, checkWrong}
-use Rattle.words.specs.WordLaws.{whole-block}
-use Rattle.loads.specs.Slots.{slotBlockWrong}
+use Rattle.versions.specs.declared.VersionRecord.{VersionRecord}
+use Rattle.blocks_words.specs.Words.{blockBytes, notBlock, checkWrong}
+use Rattle.blocks_words.specs.WordLaws.{whole-block}
+use Rattle.blocks_loads.specs.LoadedSlots.{slotBlockWrong}
 use Rattle.blocks.specs.FrontLaws.{blockTests}
 use Rattle.blocks.specs.LoadBlock.{loadBlockRefusal}
 
@@ -37,7 +37,7 @@ module _ (block : List ℕ) (wrong : Bool) where
     end-0 check words = past-15 check ∙ skip 16 _ words ∙ done
 
 -- the list of load block is these behind the front
-pub load-block-end : (t : List ℤ) (v : Version) (k : ℕ) (block : List ℕ) → first (blockTests t v k) ≡ 0
+pub load-block-end : (t : List ℤ) (v : VersionRecord) (k : ℕ) (block : List ℕ) → first (blockTests t v k) ≡ 0
     → loadBlockRefusal t v k block ≡ first (endTests block (slotBlockWrong t v k block))
 unfolding loadBlockRefusal
 load-block-end t v k block h = pass (blockTests t v k) _ tt h

@@ -9,31 +9,31 @@ use borrow.Author.Tests.{leb-true}
 use Rattle.laws.specs.Tests.{not-no}
 use Rattle.laws.specs.First.{first, none, skip, done}
 use Rattle.laws.specs.Order.{from-to}
-use Rattle.version.specs.declared.Version.{Version}
-use Rattle.version.specs.Record.{badRecord}
+use Rattle.versions.specs.declared.VersionRecord.{VersionRecord}
+use Rattle.versions.specs.Record.{badRecord}
 use Rattle.table.specs.Slots.{badTable}
-use Rattle.loads.specs.Slots.{blocks, Within}
-use Rattle.blocks.specs.Slots.{noSuchBlock, blockBroken}
+use Rattle.blocks_loads.specs.LoadedSlots.{blocks, Within}
+use Rattle.blocks.specs.SlotBlocks.{noSuchBlock, blockBroken}
 
 -- 1, 2, 7
-abbrev pub idleTests : List ℤ → Version → List (Bool × ℕ)
+abbrev pub idleTests : List ℤ → VersionRecord → List (Bool × ℕ)
 idleTests t v = (badTable t, 1) ∷ (badRecord v, 2) ∷ (v .active, 7) ∷ []
 
 -- 1, 2, 7, 5
-abbrev pub blockTests : List ℤ → Version → ℕ → List (Bool × ℕ)
+abbrev pub blockTests : List ℤ → VersionRecord → ℕ → List (Bool × ℕ)
 blockTests t v k = idleTests t v ++ (noSuchBlock t k, 5) ∷ []
 
 -- what is left of the list of save block: 6
-abbrev pub slotTests : List ℤ → Version → ℕ → List (Bool × ℕ)
+abbrev pub slotTests : List ℤ → VersionRecord → ℕ → List (Bool × ℕ)
 slotTests t v k = (blockBroken t v k, 6) ∷ []
 
 -- ---- no test refuses where each fails
-pub front-passes : (t : List ℤ) (v : Version) (k : ℕ) → badTable t ≡ false → badRecord v ≡ false → v .active ≡ false → noSuchBlock t k ≡ false
+pub front-passes : (t : List ℤ) (v : VersionRecord) (k : ℕ) → badTable t ≡ false → badRecord v ≡ false → v .active ≡ false → noSuchBlock t k ≡ false
     → first (blockTests t v k) ≡ 0
-front-passes t v k table version idle number = skip 1 _ table ∙ skip 2 _ version ∙ skip 7 _ idle ∙ skip 5 _ number ∙ done
+front-passes t v k table versions idle number = skip 1 _ table ∙ skip 2 _ versions ∙ skip 7 _ idle ∙ skip 5 _ number ∙ done
 
 -- ---- what code below the tests requires of the table
-pub within : (t : List ℤ) (v : Version) (k : ℕ) → first (blockTests t v k) ≡ 0 → Within t k
+pub within : (t : List ℤ) (v : VersionRecord) (k : ℕ) → first (blockTests t v k) ≡ 0 → Within t k
 within t v k h =
     let range = from-to (pos 1) (pos (blocks t)) (pos k) (not-no (none _ tt h 5)) in
     record { sound = none _ tt h 1; low = leb-true 1 k (range .low); high = leb-true k (blocks t) (range .high) }

@@ -14,18 +14,18 @@ use Rattle.laws.specs.Tests.{clash}
 use Rattle.laws.specs.First.{none}
 use Rattle.laws.specs.Order.{fromTo}
 use Rattle.laws.specs.Digits.{EachBelow}
-use Rattle.version.specs.declared.Version.{Version}
-use Rattle.version.specs.Record.{largestVersion, badRecord}
-use Rattle.version.specs.RecordLaws.{sound}
+use Rattle.versions.specs.declared.VersionRecord.{VersionRecord}
+use Rattle.versions.specs.Record.{largestVersion, badRecord}
+use Rattle.versions.specs.RecordLaws.{sound}
 use Rattle.table.specs.Slots.{slots}
 use Rattle.table.specs.SlotLaws.{Lengths, lengths}
-use Rattle.words.specs.Words.{checkPlace, wordBase, blockOf, wordAt}
-use Rattle.words.specs.Groups.{zeros-below}
-use Rattle.words.specs.WordLaws.{BlockWords, block-word, filler-zero}
-use Rattle.loads.specs.Headers.{headerWrong}
-use Rattle.loads.specs.AllowedLaws.{header-allowed}
-use Rattle.blocks.specs.declared.Header.the-variants.{Of}
-use Rattle.blocks.specs.Headers.{headerWords, headerOf}
+use Rattle.blocks_words.specs.Words.{checkPlace, wordBase, blockOf, wordAt}
+use Rattle.blocks_words.specs.Groups.{zeros-below}
+use Rattle.blocks_words.specs.WordLaws.{BlockWords, block-word, filler-zero}
+use Rattle.blocks_loads.specs.HeaderFields.{headerWrong}
+use Rattle.blocks_loads.specs.AllowedLaws.{header-allowed}
+use Rattle.blocks.specs.declared.Header.the-variants.{Holds}
+use Rattle.blocks.specs.HeaderBlocks.{headerWords, headerOf}
 use Rattle.blocks.specs.SaveHeader.{saveHeaderRefusal, saveHeaderBlock}
 
 -- a lawful version is a number of its own size
@@ -39,11 +39,11 @@ natural : (c : ℤ) → leZ (pos 1) c ≡ true → leZ c largestVersion ≡ true
 natural (pos n) l h = record { positive = tt; back = refl; small = leb-true n (natAbs largestVersion) h; lawful = rw (l, h) }
 natural (negsuc n) l h = clash l refl
 
-pub current-natural : (v : Version) → badRecord v ≡ false → Natural (v .current)
+pub current-natural : (v : VersionRecord) → badRecord v ≡ false → Natural (v .current)
 current-natural v known = let s = sound known in natural (v .current) (s .low) (s .high)
 
 -- ---- a save that is not refused
-module _ (t : List ℤ) (v : Version) (allowed : saveHeaderRefusal t v ≡ 0) where
+module _ (t : List ℤ) (v : VersionRecord) (allowed : saveHeaderRefusal t v ≡ 0) where
   size : Lengths t
   unfolding saveHeaderRefusal
   size = lengths t (none _ tt allowed 1)
@@ -82,6 +82,6 @@ module _ (t : List ℤ) (v : Version) (allowed : saveHeaderRefusal t v ≡ 0) wh
       (filler-zero _ header-words (0 ∷ slots t ∷ natAbs (v .current) ∷ []) 124 refl)
 
   -- and they are the slots of the table and the current version
-  pub header-read : headerOf (blockOf (headerWords t v)) ≡ Of (slots t) (v .current)
+  pub header-read : headerOf (blockOf (headerWords t v)) ≡ Holds (slots t) (v .current)
   unfolding headerOf headerWords
   header-read = rw (header-at 1 (omega arith), header-at 2 (omega arith), current .back)

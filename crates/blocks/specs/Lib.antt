@@ -1,5 +1,5 @@
-pub mod Headers
-pub mod Slots
+pub mod HeaderBlocks
+pub mod SlotBlocks
 pub mod SaveHeader
 pub mod SaveBlock
 pub mod LoadHeader
@@ -10,4 +10,4 @@ pub mod ContractLaws
 pub mod HeaderLaws
 pub mod SlotBlockLaws
 pub mod RoundTrip
-pub mod OneWord
+pub mod AlteredBlock

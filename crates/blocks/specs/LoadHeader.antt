@@ -4,11 +4,11 @@ use mathlib.Core.Bool.{Bool}
 use mathlib.Core.List.{List, [], _∷_}
 use Prim.Native.Nat.{ℕ}
 use Rattle.laws.specs.First.{first, unless}
-use Rattle.words.specs.Words.{notBlock, checkWrong}
-use Rattle.loads.specs.Headers.{headerWrong}
+use Rattle.blocks_words.specs.Words.{notBlock, checkWrong}
+use Rattle.blocks_loads.specs.HeaderFields.{headerWrong}
 use Rattle.blocks.specs.declared.Header.{Header}
 use Rattle.blocks.specs.declared.Header.the-variants.{Refused}
-use Rattle.blocks.specs.Headers.{headerOf}
+use Rattle.blocks.specs.HeaderBlocks.{headerOf}
 
 -- Load header: 14, 15, 16
 abbrev pub loadHeaderTests : List ℕ → List (Bool × ℕ)
@@ -26,8 +26,8 @@ unfoldable pub loadHeaderAnswer : List ℕ → Header
 loadHeaderAnswer block = unless (loadHeaderRefusal block) Refused (headerOf block)
 
 -- the contract, and that it allows one outcome
-pub record HeaderLoaded (block : List ℕ) (r : Header) : Type 0 where
+pub record LoadHeaderContract (block : List ℕ) (r : Header) : Type 0 where
   pub answer : r ≡ loadHeaderAnswer block
 
-pub one-outcome : {block : List ℕ} {r r′ : Header} → HeaderLoaded block r → HeaderLoaded block r′ → r ≡ r′
+pub one-outcome : {block : List ℕ} {r r′ : Header} → LoadHeaderContract block r → LoadHeaderContract block r′ → r ≡ r′
 one-outcome a b = a .answer ∙ sym (b .answer)

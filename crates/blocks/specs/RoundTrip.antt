@@ -14,22 +14,22 @@ use borrow.Author.Tests.{ltb-false}
 use Rattle.laws.specs.Tests.{by-test, by-order}
 use Rattle.laws.specs.First.{none}
 use Rattle.laws.specs.Lowest.{none-passes}
-use Rattle.version.specs.declared.Version.{Version}
+use Rattle.versions.specs.declared.VersionRecord.{VersionRecord}
 use Rattle.table.specs.Slots.{badTable, slots, slotAt}
 use Rattle.table.specs.SlotLaws.{slotAt-past, same-length, by-slots}
 use Rattle.table.specs.Formed.{broken}
 use Rattle.table.specs.FormedLaws.{empty-zeros}
-use Rattle.words.specs.Words.{blockOf}
-use Rattle.words.specs.WordLaws.{block-length, block-word, check-right, filler-zero}
-use Rattle.words.specs.Longs.{blockSlots}
-use Rattle.loads.specs.Slots.{blocks, firstSlot, slotWrong, slotBlockWrong, loadedTo}
-use Rattle.loads.specs.AllowedLaws.{slots-allowed}
-use Rattle.loads.specs.LoadedLaws.{loaded-length, loaded-other, loaded-same}
-use Rattle.blocks.specs.declared.Header.the-variants.{Of}
+use Rattle.blocks_words.specs.Words.{blockOf}
+use Rattle.blocks_words.specs.WordLaws.{block-length, block-word, check-right, filler-zero}
+use Rattle.blocks_words.specs.Longs.{blockSlots}
+use Rattle.blocks_loads.specs.LoadedSlots.{blocks, firstSlot, slotWrong, slotBlockWrong, loadedTo}
+use Rattle.blocks_loads.specs.AllowedLaws.{slots-allowed}
+use Rattle.blocks_loads.specs.LoadedLaws.{loaded-length, loaded-other, loaded-same}
+use Rattle.blocks.specs.declared.Header.the-variants.{Holds}
 use Rattle.blocks.specs.declared.Loaded.the-variants.{Done}
 use Rattle.blocks.specs.HeaderLaws.{header-saved, header-words, header-right, header-read}
 use Rattle.blocks.specs.EndLaws.{end-0, load-block-end}
-use Rattle.blocks.specs.Slots.{blockBroken, slotsFrom, slotBlockWords}
+use Rattle.blocks.specs.SlotBlocks.{blockBroken, slotsFrom, slotBlockWords}
 use Rattle.blocks.specs.SlotBlockLaws.{Fitting, front, table-sound, slots-saved, slot-words, slot-back}
 use Rattle.blocks.specs.SaveHeader.{saveHeaderRefusal, saveHeaderBlock}
 use Rattle.blocks.specs.SaveBlock.{saveBlockRefusal, saveBlockBlock}
@@ -37,7 +37,7 @@ use Rattle.blocks.specs.LoadHeader.{loadHeaderRefusal, loadHeaderAnswer}
 use Rattle.blocks.specs.LoadBlock.{loadBlockRefusal, loadBlockAnswer, loadBlockWords}
 
 -- ---- the header
-module _ (t : List ℤ) (v : Version) (allowed : saveHeaderRefusal t v ≡ 0) where
+module _ (t : List ℤ) (v : VersionRecord) (allowed : saveHeaderRefusal t v ≡ 0) where
   -- a load of it is not refused
   pub header-loads : loadHeaderRefusal (saveHeaderBlock t v) ≡ 0
   unfolding loadHeaderRefusal
@@ -46,7 +46,7 @@ module _ (t : List ℤ) (v : Version) (allowed : saveHeaderRefusal t v ≡ 0) wh
       rw (header-saved t v allowed) (end-0 _ _ (block-length _ made) (check-right _ made) (header-right t v allowed))
 
   -- and answers the slots of the table and the current version
-  pub header-back : loadHeaderAnswer (saveHeaderBlock t v) ≡ Of (slots t) (v .current)
+  pub header-back : loadHeaderAnswer (saveHeaderBlock t v) ≡ Holds (slots t) (v .current)
   unfolding loadHeaderAnswer
   header-back = rw (header-loads, header-saved t v allowed) (header-read t v allowed)
 
@@ -61,7 +61,7 @@ pub record Restored (t u loaded : List ℤ) (from count : ℕ) : Type 0 where
 beyond : (t u : List ℤ) → length u ≡ length t → badTable t ≡ false → (j : ℕ) → slots t ≤ j → slotAt u j ≡ slotAt t j
 beyond t u same sound j h = slotAt-past u j (same-length t u same ∙ sound) (rw same h) ∙ sym (slotAt-past t j sound h)
 
-module _ (t u : List ℤ) (v : Version) (k : ℕ) (fitting : Fitting t) (same : length u ≡ length t) (allowed : saveBlockRefusal t v k ≡ 0) where
+module _ (t u : List ℤ) (v : VersionRecord) (k : ℕ) (fitting : Fitting t) (same : length u ≡ length t) (allowed : saveBlockRefusal t v k ≡ 0) where
   -- each slot of the block is one that a load takes: well formed in the table, and zero beyond it
   slot-right : (j : ℕ) → j < blockSlots → slotWrong u v k (blockOf (slotBlockWords t k)) j ≡ false
   unfolding saveBlockRefusal blockBroken
@@ -108,11 +108,11 @@ module _ (t u : List ℤ) (v : Version) (k : ℕ) (fitting : Fitting t) (same : 
 
 -- ---- every block
 -- the first n blocks of one table loaded into another
-abbrev pub loadAll : List ℤ → Version → List ℤ → ℕ → List ℤ
+abbrev pub loadAll : List ℤ → VersionRecord → List ℤ → ℕ → List ℤ
 loadAll t v u zero = u
 loadAll t v u (suc n) = loadBlockWords (loadAll t v u n) v (suc n) (saveBlockBlock t v (suc n))
 
-module _ (t u : List ℤ) (v : Version) (fitting : Fitting t) (sound : badTable t ≡ false) (same : length u ≡ length t)
+module _ (t u : List ℤ) (v : VersionRecord) (fitting : Fitting t) (sound : badTable t ≡ false) (same : length u ≡ length t)
     (allowed : (k : ℕ) → 1 ≤ k → k ≤ blocks t → saveBlockRefusal t v k ≡ 0) where
   -- one more block, into a table of that length
   next : (n : ℕ) → n < blocks t → length (loadAll t v u n) ≡ length t

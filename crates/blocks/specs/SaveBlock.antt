@@ -6,15 +6,15 @@ use mathlib.Core.List.{List, [], _∷_}
 use Prim.Native.Nat.{ℕ}
 use lib.IntN.{ℤ}
 use Rattle.laws.specs.First.{first, unless}
-use Rattle.version.specs.declared.Version.{Version}
-use Rattle.version.specs.Record.{badRecord}
+use Rattle.versions.specs.declared.VersionRecord.{VersionRecord}
+use Rattle.versions.specs.Record.{badRecord}
 use Rattle.table.specs.Slots.{badTable}
-use Rattle.words.specs.Words.{blockOf, zeroBlock}
+use Rattle.blocks_words.specs.Words.{blockOf, zeroBlock}
 use Rattle.blocks.specs.declared.Saved.{Saved}
-use Rattle.blocks.specs.Slots.{noSuchBlock, blockBroken, slotBlockWords}
+use Rattle.blocks.specs.SlotBlocks.{noSuchBlock, blockBroken, slotBlockWords}
 
 -- Save block: 1, 2, 7, 5, 6 (its slots)
-abbrev pub saveBlockTests : List ℤ → Version → ℕ → List (Bool × ℕ)
+abbrev pub saveBlockTests : List ℤ → VersionRecord → ℕ → List (Bool × ℕ)
 saveBlockTests t v k =
     (badTable t, 1)
     ∷ (badRecord v, 2)
@@ -23,16 +23,16 @@ saveBlockTests t v k =
     ∷ (blockBroken t v k, 6)
     ∷ []
 
-unfoldable pub saveBlockRefusal : List ℤ → Version → ℕ → ℕ
+unfoldable pub saveBlockRefusal : List ℤ → VersionRecord → ℕ → ℕ
 saveBlockRefusal t v k = first (saveBlockTests t v k)
 
-unfoldable pub saveBlockBlock : List ℤ → Version → ℕ → List ℕ
+unfoldable pub saveBlockBlock : List ℤ → VersionRecord → ℕ → List ℕ
 saveBlockBlock t v k = unless (saveBlockRefusal t v k) (λ n. zeroBlock) (blockOf (slotBlockWords t k))
 
 -- the contract, and that it allows one outcome
-pub record BlockSaved (t : List ℤ) (v : Version) (k : ℕ) (r : Saved) : Type 0 where
+pub record SaveBlockContract (t : List ℤ) (v : VersionRecord) (k : ℕ) (r : Saved) : Type 0 where
   pub refusal : r .refusal ≡ saveBlockRefusal t v k
   pub block : r .block ≡ saveBlockBlock t v k
 
-pub one-outcome : {t : List ℤ} {v : Version} {k : ℕ} {r r′ : Saved} → BlockSaved t v k r → BlockSaved t v k r′ → (r .refusal ≡ r′ .refusal) × (r .block ≡ r′ .block)
+pub one-outcome : {t : List ℤ} {v : VersionRecord} {k : ℕ} {r r′ : Saved} → SaveBlockContract t v k r → SaveBlockContract t v k r′ → (r .refusal ≡ r′ .refusal) × (r .block ≡ r′ .block)
 one-outcome a b = (a .refusal ∙ sym (b .refusal), a .block ∙ sym (b .block))

@@ -6,31 +6,31 @@ use mathlib.Core.List.{List, [], _∷_}
 use Prim.Native.Nat.{ℕ}
 use lib.IntN.{ℤ}
 use Rattle.laws.specs.First.{first, unless}
-use Rattle.version.specs.declared.Version.{Version}
-use Rattle.version.specs.Record.{badRecord}
+use Rattle.versions.specs.declared.VersionRecord.{VersionRecord}
+use Rattle.versions.specs.Record.{badRecord}
 use Rattle.table.specs.Slots.{badTable}
-use Rattle.words.specs.Words.{blockOf, zeroBlock}
+use Rattle.blocks_words.specs.Words.{blockOf, zeroBlock}
 use Rattle.blocks.specs.declared.Saved.{Saved}
-use Rattle.blocks.specs.Headers.{headerWords}
+use Rattle.blocks.specs.HeaderBlocks.{headerWords}
 
 -- Save header: 1, 2, 7
-abbrev pub saveHeaderTests : List ℤ → Version → List (Bool × ℕ)
+abbrev pub saveHeaderTests : List ℤ → VersionRecord → List (Bool × ℕ)
 saveHeaderTests t v =
     (badTable t, 1)
     ∷ (badRecord v, 2)
     ∷ (v .active, 7)
     ∷ []
 
-unfoldable pub saveHeaderRefusal : List ℤ → Version → ℕ
+unfoldable pub saveHeaderRefusal : List ℤ → VersionRecord → ℕ
 saveHeaderRefusal t v = first (saveHeaderTests t v)
 
-unfoldable pub saveHeaderBlock : List ℤ → Version → List ℕ
+unfoldable pub saveHeaderBlock : List ℤ → VersionRecord → List ℕ
 saveHeaderBlock t v = unless (saveHeaderRefusal t v) (λ n. zeroBlock) (blockOf (headerWords t v))
 
 -- the contract, and that it allows one outcome
-pub record HeaderSaved (t : List ℤ) (v : Version) (r : Saved) : Type 0 where
+pub record SaveHeaderContract (t : List ℤ) (v : VersionRecord) (r : Saved) : Type 0 where
   pub refusal : r .refusal ≡ saveHeaderRefusal t v
   pub block : r .block ≡ saveHeaderBlock t v
 
-pub one-outcome : {t : List ℤ} {v : Version} {r r′ : Saved} → HeaderSaved t v r → HeaderSaved t v r′ → (r .refusal ≡ r′ .refusal) × (r .block ≡ r′ .block)
+pub one-outcome : {t : List ℤ} {v : VersionRecord} {r r′ : Saved} → SaveHeaderContract t v r → SaveHeaderContract t v r′ → (r .refusal ≡ r′ .refusal) × (r .block ≡ r′ .block)
 one-outcome a b = (a .refusal ∙ sym (b .refusal), a .block ∙ sym (b .block))

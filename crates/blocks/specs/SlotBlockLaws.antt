@@ -19,19 +19,19 @@ use Rattle.laws.specs.Bits.{plain}
 use Rattle.laws.specs.First.{first, none, hit, skip, done}
 use Rattle.laws.specs.Lowest.{some-yes, all-fail}
 use Rattle.laws.specs.Digits.{digits, EachBelow, digits-below, number-digits}
-use Rattle.version.specs.declared.Version.{Version}
+use Rattle.versions.specs.declared.VersionRecord.{VersionRecord}
 use Rattle.table.specs.declared.Slot.{Slot}
 use Rattle.table.specs.Slots.{slotWords, badTable, wordsOf, word, slotAt, empty}
 use Rattle.table.specs.SlotLaws.{lengths, word-at}
 use Rattle.table.specs.Formed.{broken}
-use Rattle.words.specs.Words.{checkPlace, byteBase, wordBytes, wordBase, blockOf, wordAt}
-use Rattle.words.specs.Groups.{groups-length, groups-at, groups-below, append-below, zeros-below}
-use Rattle.words.specs.WordLaws.{BlockWords, block-word}
-use Rattle.words.specs.WrittenLaws.{Written, Follow, whole}
-use Rattle.words.specs.LongLaws.{slot-of-words}
-use Rattle.words.specs.Longs.{blockSlots, halves, halvesOf, longAt, blockSlot}
-use Rattle.loads.specs.Slots.{firstSlot}
-use Rattle.blocks.specs.Slots.{slotsFrom, slotBlockWords, blockBroken}
+use Rattle.blocks_words.specs.Words.{checkPlace, byteBase, wordBytes, wordBase, blockOf, wordAt}
+use Rattle.blocks_words.specs.Groups.{groups-length, groups-at, groups-below, append-below, zeros-below}
+use Rattle.blocks_words.specs.WordLaws.{BlockWords, block-word}
+use Rattle.blocks_words.specs.FollowLaws.{FollowedBy, Follow, whole}
+use Rattle.blocks_words.specs.LongLaws.{slot-of-words}
+use Rattle.blocks_words.specs.Longs.{blockSlots, halves, halvesOf, longAt, blockSlot}
+use Rattle.blocks_loads.specs.LoadedSlots.{firstSlot}
+use Rattle.blocks.specs.SlotBlocks.{slotsFrom, slotBlockWords, blockBroken}
 use Rattle.blocks.specs.FrontLaws.{blockTests, slotTests, front-passes, within}
 use Rattle.blocks.specs.SaveBlock.{saveBlockRefusal, saveBlockBlock}
 
@@ -101,10 +101,10 @@ half-at t from m j n h a b c =
 abbrev pub numbered : List ℤ → ℕ → ℕ → List ℕ
 numbered t k n = k ∷ slotsFrom t (firstSlot k) n
 
-module _ (t : List ℤ) (k n : ℕ) {block : List ℕ} {check : ℕ} (w : Written (numbered t k n) block check) where
+module _ (t : List ℤ) (k n : ℕ) {block : List ℕ} {check : ℕ} (w : FollowedBy (numbered t k n) block check) where
   -- one slot more
   pub slot-written : {block′ : List ℕ} {check′ : ℕ}
-      → Follow (n * 16 + 1) block check (halvesOf (wordsOf (slotAt t (firstSlot k + n)))) block′ check′ → Written (numbered t k (n + 1)) block′ check′
+      → Follow (n * 16 + 1) block check (halvesOf (wordsOf (slotAt t (firstSlot k + n)))) block′ check′ → FollowedBy (numbered t k (n + 1)) block′ check′
   slot-written f =
       rw (add-one, slotsFrom-more t (firstSlot k) n) (f .after (numbered t k n) (omega (arith, slotsFrom-length t (firstSlot k) n)) w)
 
@@ -114,7 +114,7 @@ module _ (t : List ℤ) (k n : ℕ) {block : List ℕ} {check : ℕ} (w : Writte
   slots-whole e = whole (numbered t k blockSlots) 14 refl (rw e at w)
 
 -- and refusal 6: a broken one is enough, and where none is it is not given
-module _ (t : List ℤ) (v : Version) (k : ℕ) where
+module _ (t : List ℤ) (v : VersionRecord) (k : ℕ) where
   pub slot-broken : (j : ℕ) → j < blockSlots → broken (slotAt t (firstSlot k + j)) v ≡ true → first (slotTests t v k) ≡ 6
   unfolding blockBroken
   slot-broken j h b = hit [] (some-yes _ blockSlots j h b)
@@ -124,7 +124,7 @@ module _ (t : List ℤ) (v : Version) (k : ℕ) where
   none-broken f = skip 6 [] (all-fail _ blockSlots f) ∙ done
 
 -- ---- a save that is not refused
-module _ (t : List ℤ) (v : Version) (k : ℕ) (allowed : saveBlockRefusal t v k ≡ 0) where
+module _ (t : List ℤ) (v : VersionRecord) (k : ℕ) (allowed : saveBlockRefusal t v k ≡ 0) where
   -- the tests before its slots do not refuse it
   pub front : first (blockTests t v k) ≡ 0
   unfolding saveBlockRefusal

@@ -4,14 +4,14 @@ ghost use mathlib.Core.Path.{_≡_};
 ghost use Rattle.laws.specs.First.{first};
 ghost use Rattle.blocks.specs.FrontLaws.{idleTests, blockTests};
 ghost use Rattle.blocks.specs.ContractLaws.{HandsZeros};
-ghost use Rattle.blocks.specs.SaveHeader.{HeaderSaved};
-ghost use Rattle.blocks.specs.SaveBlock.{BlockSaved};
-ghost use Rattle.blocks.specs.LoadHeader.{HeaderLoaded};
-ghost use Rattle.blocks.specs.LoadBlock.{BlockLoaded};
-use version::Version;
+ghost use Rattle.blocks.specs.SaveHeader.{SaveHeaderContract};
+ghost use Rattle.blocks.specs.SaveBlock.{SaveBlockContract};
+ghost use Rattle.blocks.specs.LoadHeader.{LoadHeaderContract};
+ghost use Rattle.blocks.specs.LoadBlock.{LoadBlockContract};
+use versions::VersionRecord;
 
-mod headers;
-mod slots;
+mod header_blocks;
+mod slot_blocks;
 
 // The bytes of a block.
 pub const BLOCK_BYTES: usize = 512;
@@ -24,7 +24,7 @@ pub struct Saved {
 
 // What load header answers: slots and current, or a refusal.
 pub enum Header {
-    Of { slots: u32, current: i64 },
+    Holds { slots: u32, current: i64 },
     Refused(u32),
 }
 
@@ -35,30 +35,30 @@ pub enum Loaded {
 }
 
 // The refusals that the list of each save begins with, 0 for none.
-fn idle_refusal(table: &[i64], version: Version) -> u32
-    ensures { λ r. ⌜ r ≡ first (idleTests (now (table .entry)) version) ⌝ }
+fn idle_refusal(table: &[i64], versions: VersionRecord) -> u32
+    ensures { λ r. ⌜ r ≡ first (idleTests (now (table .entry)) versions) ⌝ }
 {
     if table::bad_table(table) {
         return 1;
     }
-    if version::bad_record(version) {
+    if versions::bad_record(versions) {
         return 2;
     }
-    if version.active {
+    if versions.active {
         return 7;
     }
     0
 }
 
 // Those that the lists of save block and load block begin with, 0 for none.
-fn block_refusal(table: &[i64], version: Version, number: usize) -> u32
-    ensures { λ r. ⌜ r ≡ first (blockTests (now (table .entry)) version number) ⌝ }
+fn block_refusal(table: &[i64], versions: VersionRecord, number: usize) -> u32
+    ensures { λ r. ⌜ r ≡ first (blockTests (now (table .entry)) versions number) ⌝ }
 {
-    let refusal = idle_refusal(table, version);
+    let refusal = idle_refusal(table, versions);
     if refusal != 0 {
         return refusal;
     }
-    if slots::no_such_block(table, number) {
+    if slot_blocks::no_such_block(table, number) {
         return 5;
     }
     0
@@ -75,16 +75,16 @@ fn refused(number: u32) -> Saved
 }
 
 // Save header: 1, 2, 7.
-pub fn save_header(table: &[i64], version: Version) -> Saved
-    ensures { λ r. ⌜ HeaderSaved (now (table .entry)) version r ⌝ }
+pub fn save_header(table: &[i64], versions: VersionRecord) -> Saved
+    ensures { λ r. ⌜ SaveHeaderContract (now (table .entry)) versions r ⌝ }
 {
-    let refusal = idle_refusal(table, version);
+    let refusal = idle_refusal(table, versions);
     if refusal != 0 {
         return refused(refusal);
     }
     let count = table.len() / table::SLOT_WORDS;
-    let current = version.current;
-    let block = headers::header_block(count as u32, current as u32);
+    let current = versions.current;
+    let block = header_blocks::header_block(count as u32, current as u32);
     Saved {
         refusal: 0,
         block: block,
@@ -92,52 +92,52 @@ pub fn save_header(table: &[i64], version: Version) -> Saved
 }
 
 // Save block: 1, 2, 7, 5, 6 (its slots).
-pub fn save_block(table: &[i64], version: Version, number: usize) -> Saved
-    ensures { λ r. ⌜ BlockSaved (now (table .entry)) version number r ⌝ }
+pub fn save_block(table: &[i64], versions: VersionRecord, number: usize) -> Saved
+    ensures { λ r. ⌜ SaveBlockContract (now (table .entry)) versions number r ⌝ }
 {
-    let refusal = block_refusal(table, version, number);
+    let refusal = block_refusal(table, versions, number);
     if refusal != 0 {
         return refused(refusal);
     }
-    slots::save_slots(table, version, number)
+    slot_blocks::save_slots(table, versions, number)
 }
 
 // Load header: 14, 15, 16. It answers slots and current.
 pub fn load_header(block: &[u8]) -> Header
-    ensures { λ r. ⌜ HeaderLoaded (now (block .entry)) r ⌝ }
+    ensures { λ r. ⌜ LoadHeaderContract (now (block .entry)) r ⌝ }
 {
     if block.len() != BLOCK_BYTES {
         return Header::Refused(14);
     }
-    if words::check_wrong(block) {
+    if blocks_words::check_wrong(block) {
         return Header::Refused(15);
     }
-    if loads::headers::header_wrong(block) {
+    if blocks_loads::header_fields::header_wrong(block) {
         return Header::Refused(16);
     }
-    Header::Of {
-        slots: words::word_at(block, loads::headers::SLOTS_PLACE),
-        current: words::word_at(block, loads::headers::CURRENT_PLACE) as i64,
+    Header::Holds {
+        slots: blocks_words::word_at(block, blocks_loads::header_fields::SLOTS_PLACE),
+        current: blocks_words::word_at(block, blocks_loads::header_fields::CURRENT_PLACE) as i64,
     }
 }
 
 // Load block: 1, 2, 7, 5, 14, 15, 16. It writes its slots only, and nothing where it is refused.
-pub fn load_block(table: &mut [i64], version: Version, number: usize, block: &[u8]) -> Loaded
-    ensures { λ r. ⌜ BlockLoaded (now (table .entry)) version number (now (block .entry)) r (now (table .exit)) ⌝ }
+pub fn load_block(table: &mut [i64], versions: VersionRecord, number: usize, block: &[u8]) -> Loaded
+    ensures { λ r. ⌜ LoadBlockContract (now (table .entry)) versions number (now (block .entry)) r (now (table .exit)) ⌝ }
 {
-    let refusal = block_refusal(table, version, number);
+    let refusal = block_refusal(table, versions, number);
     if refusal != 0 {
         return Loaded::Refused(refusal);
     }
     if block.len() != BLOCK_BYTES {
         return Loaded::Refused(14);
     }
-    if words::check_wrong(block) {
+    if blocks_words::check_wrong(block) {
         return Loaded::Refused(15);
     }
-    if loads::slots::slot_block_wrong(table, version, number, block) {
+    if blocks_loads::loaded_slots::slot_block_wrong(table, versions, number, block) {
         return Loaded::Refused(16);
     }
-    loads::slots::load_slots(table, number, block);
+    blocks_loads::loaded_slots::load_slots(table, number, block);
     Loaded::Done
 }

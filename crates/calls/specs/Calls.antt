@@ -2,7 +2,7 @@
 use mathlib.Core.List.{List}
 use Prim.Native.Nat.{ℕ}
 use lib.IntN.{ℤ}
-use Rattle.version.specs.declared.Numbered.{Numbered}
+use Rattle.versions.specs.declared.Numbered.{Numbered}
 use Rattle.reads.specs.declared.Seen.{Seen}
 use Rattle.reads.specs.declared.Rolled.{Rolled}
 use Rattle.changes.specs.declared.Placed.{Placed}

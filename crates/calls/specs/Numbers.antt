@@ -2,8 +2,8 @@
 -- is its number, and zeros elsewhere. Assumes nothing.
 use mathlib.Core.List.{List, [], _∷_}
 use lib.IntN.{ℤ, pos}
-use Rattle.version.specs.declared.Numbered.{Numbered}
-use Rattle.version.specs.declared.Numbered.the-variants as numbered
+use Rattle.versions.specs.declared.Numbered.{Numbered}
+use Rattle.versions.specs.declared.Numbered.the-variants as numbered
 use Rattle.reads.specs.declared.Seen.{Seen}
 use Rattle.reads.specs.declared.Seen.the-variants as seen
 use Rattle.reads.specs.declared.Rolled.{Rolled}
@@ -19,28 +19,28 @@ use Rattle.calls.specs.Calls as call
 
 -- open, begin and commit: the version
 abbrev pub ofNumbered : Numbered → List ℤ
-ofNumbered (numbered.Number n) = pos 0 ∷ n ∷ []
+ofNumbered (numbered.Version n) = pos 0 ∷ n ∷ []
 ofNumbered (numbered.Refused n) = pos n ∷ pos 0 ∷ []
 
 -- a slot or key read: a row's mark is 1, then its two key words and two totals; no row is zeros under a mark of its own, 0
 abbrev pub ofSeen : Seen → List ℤ
-ofSeen (seen.Row one two a b) = pos 0 ∷ pos 1 ∷ one ∷ two ∷ a ∷ b ∷ []
+ofSeen (seen.Row key1 key2 total1 total2) = pos 0 ∷ pos 1 ∷ key1 ∷ key2 ∷ total1 ∷ total2 ∷ []
 ofSeen seen.NoRow = pos 0 ∷ pos 0 ∷ pos 0 ∷ pos 0 ∷ pos 0 ∷ pos 0 ∷ []
 ofSeen (seen.Refused n) = pos n ∷ pos 0 ∷ pos 0 ∷ pos 0 ∷ pos 0 ∷ pos 0 ∷ []
 
 -- roll-up: the count, and both sums
 abbrev pub ofRolled : Rolled → List ℤ
-ofRolled (rolled.Sums n a b) = pos 0 ∷ pos n ∷ a ∷ b ∷ []
+ofRolled (rolled.Sums rows total1 total2) = pos 0 ∷ pos rows ∷ total1 ∷ total2 ∷ []
 ofRolled (rolled.Refused n) = pos n ∷ pos 0 ∷ pos 0 ∷ pos 0 ∷ []
 
 -- a change: its slot number
 abbrev pub ofPlaced : Placed → List ℤ
-ofPlaced (placed.At k) = pos 0 ∷ pos k ∷ []
+ofPlaced (placed.InSlot k) = pos 0 ∷ pos k ∷ []
 ofPlaced (placed.Refused n) = pos n ∷ pos 0 ∷ []
 
 -- load header: slots and current
 abbrev pub ofHeader : Header → List ℤ
-ofHeader (header.Of n c) = pos 0 ∷ pos n ∷ c ∷ []
+ofHeader (header.Holds n c) = pos 0 ∷ pos n ∷ c ∷ []
 ofHeader (header.Refused n) = pos n ∷ pos 0 ∷ pos 0 ∷ []
 
 -- load block: nothing more

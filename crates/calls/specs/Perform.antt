@@ -2,8 +2,8 @@
 use mathlib.Core.List.{List}
 use Prim.Native.Nat.{ℕ}
 use lib.IntN.{ℤ}
-use Rattle.version.specs.declared.Version.{Version}
-use Rattle.version.specs.Runs.{openAnswer, beginAnswer, beginRecord, commitAnswer, commitRecord}
+use Rattle.versions.specs.declared.VersionRecord.{VersionRecord}
+use Rattle.versions.specs.Runs.{openAnswer, beginAnswer, beginRecord, commitAnswer, commitRecord}
 use Rattle.reads.specs.ReadSlot.{readSlotAnswer}
 use Rattle.reads.specs.ReadKey.{readKeyAnswer}
 use Rattle.reads.specs.RollUp.{rollUpAnswer}
@@ -19,7 +19,7 @@ use Rattle.calls.specs.Calls.{Call, openSession, begin, commit, readSlot
 -- the lent things: the table's words, the record, and the block last handed out or lent
 pub record State : Type 0 where
   pub words : List ℤ
-  pub version : Version
+  pub versions : VersionRecord
   pub block : List ℕ
 
 -- what a call leaves
@@ -28,35 +28,35 @@ pub record Done : Type 0 where
   pub state : State
 
 abbrev pub withWords : State → List ℤ → State
-withWords st t = record { words = t; version = st .version; block = st .block }
+withWords st t = record { words = t; versions = st .versions; block = st .block }
 
-abbrev pub withVersion : State → Version → State
-withVersion st v = record { words = st .words; version = v; block = st .block }
+abbrev pub withVersion : State → VersionRecord → State
+withVersion st v = record { words = st .words; versions = v; block = st .block }
 
 abbrev pub withBlock : State → List ℕ → State
-withBlock st b = record { words = st .words; version = st .version; block = b }
+withBlock st b = record { words = st .words; versions = st .versions; block = b }
 
 abbrev pub done : Answer → State → Done
 done a st = record { answer = a; state = st }
 
 abbrev pub perform : Call → State → Done
-perform openSession st = done (numbered (openAnswer (st .version))) st
-perform begin st = done (numbered (beginAnswer (st .version))) (withVersion st (beginRecord (st .version)))
-perform commit st = done (numbered (commitAnswer (st .version))) (withVersion st (commitRecord (st .version)))
-perform (readSlot s k) st = done (seen (readSlotAnswer (st .words) (st .version) s k)) st
-perform (readKey s one two) st = done (seen (readKeyAnswer (st .words) (st .version) s one two)) st
-perform (rollUp s one) st = done (rolled (rollUpAnswer (st .words) (st .version) s one)) st
-perform (insert one two a b) st =
-    done (placed (insertAnswer (st .words) (st .version) one two a b)) (withWords st (insertWords (st .words) (st .version) one two a b))
-perform (update one two a b) st =
-    done (placed (updateAnswer (st .words) (st .version) one two a b)) (withWords st (updateWords (st .words) (st .version) one two a b))
-perform (delete one two) st =
-    done (placed (deleteAnswer (st .words) (st .version) one two)) (withWords st (deleteWords (st .words) (st .version) one two))
+perform openSession st = done (numbered (openAnswer (st .versions))) st
+perform begin st = done (numbered (beginAnswer (st .versions))) (withVersion st (beginRecord (st .versions)))
+perform commit st = done (numbered (commitAnswer (st .versions))) (withVersion st (commitRecord (st .versions)))
+perform (readSlot s k) st = done (seen (readSlotAnswer (st .words) (st .versions) s k)) st
+perform (readKey s key1 key2) st = done (seen (readKeyAnswer (st .words) (st .versions) s key1 key2)) st
+perform (rollUp s key1) st = done (rolled (rollUpAnswer (st .words) (st .versions) s key1)) st
+perform (insert key1 key2 total1 total2) st =
+    done (placed (insertAnswer (st .words) (st .versions) key1 key2 total1 total2)) (withWords st (insertWords (st .words) (st .versions) key1 key2 total1 total2))
+perform (update key1 key2 total1 total2) st =
+    done (placed (updateAnswer (st .words) (st .versions) key1 key2 total1 total2)) (withWords st (updateWords (st .words) (st .versions) key1 key2 total1 total2))
+perform (delete key1 key2) st =
+    done (placed (deleteAnswer (st .words) (st .versions) key1 key2)) (withWords st (deleteWords (st .words) (st .versions) key1 key2))
 perform saveHeader st =
-    done (saved (saveHeaderRefusal (st .words) (st .version))) (withBlock st (saveHeaderBlock (st .words) (st .version)))
+    done (saved (saveHeaderRefusal (st .words) (st .versions))) (withBlock st (saveHeaderBlock (st .words) (st .versions)))
 perform (saveBlock k) st =
-    done (saved (saveBlockRefusal (st .words) (st .version) k)) (withBlock st (saveBlockBlock (st .words) (st .version) k))
-perform (loadHeader b) st = done (header (loadHeaderAnswer b)) (withBlock st b)
-perform (loadBlock k b) st =
-    done (loaded (loadBlockAnswer (st .words) (st .version) k b))
-    (withBlock (withWords st (loadBlockWords (st .words) (st .version) k b)) b)
+    done (saved (saveBlockRefusal (st .words) (st .versions) k)) (withBlock st (saveBlockBlock (st .words) (st .versions) k))
+perform (loadHeader total2) st = done (header (loadHeaderAnswer total2)) (withBlock st total2)
+perform (loadBlock k total2) st =
+    done (loaded (loadBlockAnswer (st .words) (st .versions) k total2))
+    (withBlock (withWords st (loadBlockWords (st .words) (st .versions) k total2)) total2)

@@ -7,9 +7,9 @@ use mathlib.Core.Logic.{_⊎_, inl, inr}
 use lib.IntN.{ℤ, pos}
 use lib.Signed.{leZ}
 use Rattle.laws.specs.Order.{leZ-refl, next-leZ, next-low, from-to, fromTo}
-use Rattle.version.specs.declared.Version.{Version}
-use Rattle.version.specs.Record.{badRecord, runNumber, lastRun}
-use Rattle.version.specs.RecordLaws.{sound}
+use Rattle.versions.specs.declared.VersionRecord.{VersionRecord}
+use Rattle.versions.specs.Record.{badRecord, runNumber, lastRun}
+use Rattle.versions.specs.RecordLaws.{sound}
 use Rattle.table.specs.declared.Slot.{Slot}
 use Rattle.table.specs.Slots.{empty}
 use Rattle.table.specs.Operations.{insertOperation, updateOperation, deleteOperation, live}
@@ -17,28 +17,28 @@ use Rattle.table.specs.OperationLaws.{live-cases, live-insert, live-update, liv
 use Rattle.table.specs.TotalLaws.{Given, lawful-zero}
 use Rattle.table.specs.Formed.{wellFormed}
 use Rattle.table.specs.FormedLaws.{Used, used-formed, empty-formed}
-use Rattle.searches.specs.KeyLaws.{Keyed}
+use Rattle.table_searches.specs.KeyLaws.{Keyed}
 use Rattle.reads.specs.declared.Seen.{Seen}
 use Rattle.reads.specs.declared.Seen.the-variants.{Row, NoRow, Refused}
 use Rattle.reads.specs.Table1.{shown}
 use Rattle.reads.specs.Table1Laws.{shown-current, shown-deleted, shown-updated, shown-removed, shown-inserted, shown-empty}
-use Rattle.cells.specs.Tables.{newInsert, restored, saved, corrected, removed, marked}
+use Rattle.changes_cells.specs.Tables.{newInsert, restored, saved, corrected, removed, marked}
 
 -- no row, or one with that key
 abbrev pub Own : ℤ → ℤ → Seen → Type 0
-Own one two (Row k1 k2 a b) = (k1 ≡ one) × (k2 ≡ two)
-Own one two NoRow = Unit {0}
-Own one two (Refused n) = ⊥
+Own key1 key2 (Row k1 k2 a b) = (k1 ≡ key1) × (k2 ≡ key2)
+Own key1 key2 NoRow = Unit {0}
+Own key1 key2 (Refused n) = ⊥
 
 -- a change of the key makes y of x
-pub record Effect (v : Version) (x y : Slot) (one two : ℤ) (after : Seen) : Type 0 where
+pub record Effect (v : VersionRecord) (x y : Slot) (key1 key2 : ℤ) (after : Seen) : Type 0 where
   pub low : shown (v .current) y ≡ shown (v .current) x
-  pub before : Own one two (shown (runNumber v) x)
+  pub before : Own key1 key2 (shown (runNumber v) x)
   pub high : shown (runNumber v) y ≡ after
   pub formed : wellFormed y v ≡ true
-  pub key : (y ≡ empty) ⊎ Keyed y one two
+  pub key : (y ≡ empty) ⊎ Keyed y key1 key2
 
-module _ (v : Version) (known : badRecord v ≡ false) (active : v .active ≡ true) where
+module _ (v : VersionRecord) (known : badRecord v ≡ false) (active : v .active ≡ true) where
   -- the running number is above current, at least 1, and the last that a slot may have
   above : leZ (runNumber v) (v .current) ≡ false
   above = next-leZ (v .current) (sound known .low)
@@ -51,49 +51,49 @@ module _ (v : Version) (known : badRecord v ≡ false) (active : v .active ≡ t
   run-within {x} u = rw active at (from-to (pos 1) (lastRun v) (x .run) (u .run) .high)
 
   -- a row of the key, and no row, are its own
-  own-row : (x : Slot) {one two a b : ℤ} → Keyed x one two → {s : Seen} → s ≡ Row (x .key1) (x .key2) a b → Own one two s
+  own-row : (x : Slot) {key1 key2 total1 total2 : ℤ} → Keyed x key1 key2 → {s : Seen} → s ≡ Row (x .key1) (x .key2) total1 total2 → Own key1 key2 s
   own-row x k e = rw e (k .key1, k .key2)
 
-  own-none : (one two : ℤ) {s : Seen} → s ≡ NoRow → Own one two s
-  own-none one two e = rw e tt
+  own-none : (key1 key2 : ℤ) {s : Seen} → s ≡ NoRow → Own key1 key2 s
+  own-none key1 key2 e = rw e tt
 
   -- a row under the key that the slot has
-  keyed-row : (x : Slot) {one two : ℤ} (a b : ℤ) → Keyed x one two → Row (x .key1) (x .key2) a b ≡ Row one two a b
-  keyed-row x a b k = ap₂ (λ p q. Row p q a b) (k .key1) (k .key2)
+  keyed-row : (x : Slot) {key1 key2 : ℤ} (total1 total2 : ℤ) → Keyed x key1 key2 → Row (x .key1) (x .key2) total1 total2 ≡ Row key1 key2 total1 total2
+  keyed-row x total1 total2 k = ap₂ (λ p q. Row p q total1 total2) (k .key1) (k .key2)
 
-  module _ (x : Slot) (one two : ℤ) (u : Used x v) (k : Keyed x one two) where
+  module _ (x : Slot) (key1 key2 : ℤ) (u : Used x v) (k : Keyed x key1 key2) where
     -- where it is live, it shows a row of its own at the running version
-    own-live : live x ≡ true → Own one two (shown (runNumber v) x)
+    own-live : live x ≡ true → Own key1 key2 (shown (runNumber v) x)
     own-live l = own-row x k (shown-current (runNumber v) x (run-within u) l)
 
     -- ---- update
-    module _ (a b : ℤ) (g : Given a b) (l : live x ≡ true) where
-      pub save-effect : leZ (x .run) (v .current) ≡ true → Effect v x (saved (runNumber v) x a b) one two (Row one two a b)
+    module _ (total1 total2 : ℤ) (g : Given total1 total2) (l : live x ≡ true) where
+      pub save-effect : leZ (x .run) (v .current) ≡ true → Effect v x (saved (runNumber v) x total1 total2) key1 key2 (Row key1 key2 total1 total2)
       save-effect h =
-          let y = saved (runNumber v) x a b in
+          let y = saved (runNumber v) x total1 total2 in
           record {
             low = shown-updated (v .current) y above refl ∙ sym (shown-current (v .current) x h l);
             before = own-live l;
-            high = shown-current (runNumber v) y (leZ-refl (runNumber v)) (live-update y refl) ∙ keyed-row x a b k;
+            high = shown-current (runNumber v) y (leZ-refl (runNumber v)) (live-update y refl) ∙ keyed-row x total1 total2 k;
             formed = used-formed (search runs);
             key = inr (search);
           }
 
-      pub correct-effect : leZ (x .run) (v .current) ≡ false → Effect v x (corrected x a b) one two (Row one two a b)
+      pub correct-effect : leZ (x .run) (v .current) ≡ false → Effect v x (corrected x total1 total2) key1 key2 (Row key1 key2 total1 total2)
       correct-effect h =
-          let y = corrected x a b in
+          let y = corrected x total1 total2 in
           record {
             low = live-cases x l
                 (λ e. shown-inserted (v .current) y h e ∙ sym (shown-inserted (v .current) x h e))
                 (λ e. shown-updated (v .current) y h e ∙ sym (shown-updated (v .current) x h e));
             before = own-live l;
-            high = shown-current (runNumber v) y (run-within u) (live-same y x refl ∙ l) ∙ keyed-row x a b k;
+            high = shown-current (runNumber v) y (run-within u) (live-same y x refl ∙ l) ∙ keyed-row x total1 total2 k;
             formed = used-formed (search);
             key = inr (search);
           }
 
     -- ---- delete
-    pub remove-effect : leZ (x .run) (v .current) ≡ true → live x ≡ true → Effect v x (removed (runNumber v) x) one two NoRow
+    pub remove-effect : leZ (x .run) (v .current) ≡ true → live x ≡ true → Effect v x (removed (runNumber v) x) key1 key2 NoRow
     remove-effect h l =
         let y = removed (runNumber v) x in
         record {
@@ -104,7 +104,7 @@ module _ (v : Version) (known : badRecord v ≡ false) (active : v .active ≡ t
           key = inr (search);
         }
 
-    pub erase-effect : leZ (x .run) (v .current) ≡ false → x .operation ≡ insertOperation → Effect v x empty one two NoRow
+    pub erase-effect : leZ (x .run) (v .current) ≡ false → x .operation ≡ insertOperation → Effect v x empty key1 key2 NoRow
     erase-effect h e = record {
       low = shown-empty (v .current) ∙ sym (shown-inserted (v .current) x h e);
       before = own-live (live-insert x e);
@@ -113,7 +113,7 @@ module _ (v : Version) (known : badRecord v ≡ false) (active : v .active ≡ t
       key = inl refl;
     }
 
-    pub mark-effect : leZ (x .run) (v .current) ≡ false → x .operation ≡ updateOperation → Effect v x (marked x) one two NoRow
+    pub mark-effect : leZ (x .run) (v .current) ≡ false → x .operation ≡ updateOperation → Effect v x (marked x) key1 key2 NoRow
     mark-effect h e =
         let y = marked x in
         record {
@@ -125,26 +125,26 @@ module _ (v : Version) (known : badRecord v ≡ false) (active : v .active ≡ t
         }
 
     -- ---- insert, where this run deleted the row
-    pub restore-effect : (a b : ℤ) → Given a b → leZ (x .run) (v .current) ≡ false → x .operation ≡ deleteOperation
-        → Effect v x (restored x a b) one two (Row one two a b)
-    restore-effect a b g h e =
-        let y = restored x a b in
+    pub restore-effect : (total1 total2 : ℤ) → Given total1 total2 → leZ (x .run) (v .current) ≡ false → x .operation ≡ deleteOperation
+        → Effect v x (restored x total1 total2) key1 key2 (Row key1 key2 total1 total2)
+    restore-effect total1 total2 g h e =
+        let y = restored x total1 total2 in
         record {
           low = shown-updated (v .current) y h refl ∙ sym (shown-removed (v .current) x h e);
-          before = own-none one two (shown-deleted (runNumber v) x (run-within u) e);
-          high = shown-current (runNumber v) y (run-within u) (live-update y refl) ∙ keyed-row x a b k;
+          before = own-none key1 key2 (shown-deleted (runNumber v) x (run-within u) e);
+          high = shown-current (runNumber v) y (run-within u) (live-update y refl) ∙ keyed-row x total1 total2 k;
           formed = used-formed (search);
           key = inr (search);
         }
 
   -- ---- insert, where neither version shows the slot
-  pub insert-effect : (x : Slot) (one two a b : ℤ) → Given a b → shown (v .current) x ≡ NoRow → shown (runNumber v) x ≡ NoRow
-      → Effect v x (newInsert (runNumber v) one two a b) one two (Row one two a b)
-  insert-effect x one two a b g low high =
-      let y = newInsert (runNumber v) one two a b in
+  pub insert-effect : (x : Slot) (key1 key2 total1 total2 : ℤ) → Given total1 total2 → shown (v .current) x ≡ NoRow → shown (runNumber v) x ≡ NoRow
+      → Effect v x (newInsert (runNumber v) key1 key2 total1 total2) key1 key2 (Row key1 key2 total1 total2)
+  insert-effect x key1 key2 total1 total2 g low high =
+      let y = newInsert (runNumber v) key1 key2 total1 total2 in
       record {
         low = shown-inserted (v .current) y above refl ∙ sym low;
-        before = own-none one two high;
+        before = own-none key1 key2 high;
         high = shown-current (runNumber v) y (leZ-refl (runNumber v)) (live-insert y refl);
         formed = used-formed (search (runs, lawful-zero));
         key = inr (search);

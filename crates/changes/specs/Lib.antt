@@ -1,8 +1,8 @@
 pub mod Effects
 pub mod Whole
-pub mod Accepted
-pub mod Refused
-pub mod Outcomes
+pub mod ChangesAccepted
+pub mod ChangesRefused
+pub mod ChangeOutcomes
 pub mod Places
 pub mod Running
 pub mod Insert

@@ -8,90 +8,90 @@ use Prim.Native.Nat.{ℕ}
 use lib.IntN.{ℤ}
 use Rattle.laws.specs.Tests.{not-no}
 use Rattle.laws.specs.First.{first, unless, unless-refused, none, skip, done}
-use Rattle.version.specs.declared.Version.{Version}
-use Rattle.version.specs.Record.{runNumber}
+use Rattle.versions.specs.declared.VersionRecord.{VersionRecord}
+use Rattle.versions.specs.Record.{runNumber}
 use Rattle.table.specs.declared.Slot.{Slot}
 use Rattle.table.specs.Slots.{badTable, putSlot}
 use Rattle.table.specs.Totals.{unlawful}
 use Rattle.table.specs.Formed.{broken}
-use Rattle.searches.specs.Keys.{keySlot, keyed, keyLive}
-use Rattle.searches.specs.KeyLaws.{live-keyed}
+use Rattle.table_searches.specs.Keys.{keySlot, keyed, keyLive}
+use Rattle.table_searches.specs.KeyLaws.{live-keyed}
 use Rattle.changes.specs.declared.Placed.{Placed}
-use Rattle.changes.specs.declared.Placed.the-variants.{At, Refused}
-use Rattle.cells.specs.Tables.{changed, inserted, updated, deleted}
+use Rattle.changes.specs.declared.Placed.the-variants.{InSlot, Refused}
+use Rattle.changes_cells.specs.Tables.{changed, inserted, updated, deleted}
 use Rattle.changes.specs.Running.{runningTests, Running}
-use Rattle.changes.specs.Insert.{insertSlot, noSlot, insertRefusal, insertAnswer, insertWords, Inserted}
-use Rattle.changes.specs.Update.{notLive, updateRefusal, updateAnswer, updateWords, Updated}
-use Rattle.changes.specs.Delete.{deleteRefusal, deleteAnswer, deleteWords, Deleted}
+use Rattle.changes.specs.Insert.{insertSlot, noSlot, insertRefusal, insertAnswer, insertWords, InsertContract}
+use Rattle.changes.specs.Update.{notLive, updateRefusal, updateAnswer, updateWords, UpdateContract}
+use Rattle.changes.specs.Delete.{deleteRefusal, deleteAnswer, deleteWords, DeleteContract}
 
 -- ---- the parts of the lists of tests
 -- 1, 2, 8, 13: insert and update begin with these, delete with 1, 2, 8
-abbrev pub givenTests : List ℤ → Version → ℤ → ℤ → List (Bool × ℕ)
+abbrev pub givenTests : List ℤ → VersionRecord → ℤ → ℤ → List (Bool × ℕ)
 givenTests t v a b = runningTests t v ++ (unlawful a b, 13) ∷ []
 
-abbrev pub givenRefusal : List ℤ → Version → ℤ → ℤ → ℕ
+abbrev pub givenRefusal : List ℤ → VersionRecord → ℤ → ℤ → ℕ
 givenRefusal t v a b = first (givenTests t v a b)
 
 -- where none of them is given, a run is active
-pub given : (t : List ℤ) (v : Version) (a b : ℤ) → givenRefusal t v a b ≡ 0 → Running t v
+pub given : (t : List ℤ) (v : VersionRecord) (a b : ℤ) → givenRefusal t v a b ≡ 0 → Running t v
 given t v a b h =
     let no = none _ tt h in
     record { table = no 1; known = no 2; active = not-no (no 8) }
 
 -- 6, 10, 12: insert ends with these
-abbrev pub addTests : List ℤ → Version → ℤ → ℤ → List (Bool × ℕ)
-addTests t v one two = (broken (keyed t one two) v, 6) ∷ (keyLive t one two, 10) ∷ (noSlot t v one two, 12) ∷ []
+abbrev pub addTests : List ℤ → VersionRecord → ℤ → ℤ → List (Bool × ℕ)
+addTests t v key1 key2 = (broken (keyed t key1 key2) v, 6) ∷ (keyLive t key1 key2, 10) ∷ (noSlot t v key1 key2, 12) ∷ []
 
 -- 6, 11: update and delete end with these
-abbrev pub changeTests : List ℤ → Version → ℤ → ℤ → List (Bool × ℕ)
-changeTests t v one two = (broken (keyed t one two) v, 6) ∷ (notLive t one two, 11) ∷ []
+abbrev pub changeTests : List ℤ → VersionRecord → ℤ → ℤ → List (Bool × ℕ)
+changeTests t v key1 key2 = (broken (keyed t key1 key2) v, 6) ∷ (notLive t key1 key2, 11) ∷ []
 
 -- ---- what a change leaves of the table t that is refused by n, or writes the slot y at the place k
 pub record Leaves (n : ℕ) (t : List ℤ) (k : ℕ) (y : Slot) (r : Placed) (t′ : List ℤ) : Type 0 where
-  pub answer : r ≡ unless n Refused (At k)
+  pub answer : r ≡ unless n Refused (InSlot k)
   pub words : t′ ≡ unless n (λ m. t) (putSlot t k y)
 
 pub refused : {m n k : ℕ} {t : List ℤ} {y : Slot} → m ≡ n → (n ≡ 0 → ⊥) → Leaves m t k y (Refused n) t
-refused {k} {t} {y} e z = record { answer = unless-refused Refused (At k) e z; words = unless-refused (λ m. t) (putSlot t k y) e z }
+refused {k} {t} {y} e z = record { answer = unless-refused Refused (InSlot k) e z; words = unless-refused (λ m. t) (putSlot t k y) e z }
 
 -- past tests that failed it is what the tests after them leave
 pub passed : {m n k : ℕ} {t t′ : List ℤ} {y : Slot} {r : Placed} → m ≡ n → Leaves n t k y r t′ → Leaves m t k y r t′
 passed {k} {t} {t′} {y} {r} e w = subst (λ i. Leaves i t k y r t′) (sym e) w
 
 -- ---- what an insert leaves past its first part
-pub record RowAdded (t : List ℤ) (v : Version) (one two a b : ℤ) (r : Placed) (t′ : List ℤ) : Type 0 where
-  pub leaves : Leaves (first (addTests t v one two)) t (insertSlot t v one two) (inserted (runNumber v) (keyed t one two) one two a b) r t′
+pub record RowAdded (t : List ℤ) (v : VersionRecord) (key1 key2 total1 total2 : ℤ) (r : Placed) (t′ : List ℤ) : Type 0 where
+  pub leaves : Leaves (first (addTests t v key1 key2)) t (insertSlot t v key1 key2) (inserted (runNumber v) (keyed t key1 key2) key1 key2 total1 total2) r t′
 
 -- ---- what an update and a delete leave past theirs, by a decision table
-pub record RowChanged (cells : List ℕ) (t : List ℤ) (v : Version) (one two a b : ℤ) (r : Placed) (t′ : List ℤ) : Type 0 where
-  pub leaves : let x = keyed t one two in
-      Leaves (first (changeTests t v one two)) t (keySlot t one two) (changed cells (runNumber v) x (x .key1) (x .key2) a b) r t′
+pub record RowChanged (cells : List ℕ) (t : List ℤ) (v : VersionRecord) (key1 key2 total1 total2 : ℤ) (r : Placed) (t′ : List ℤ) : Type 0 where
+  pub leaves : let x = keyed t key1 key2 in
+      Leaves (first (changeTests t v key1 key2)) t (keySlot t key1 key2) (changed cells (runNumber v) x (x .key1) (x .key2) total1 total2) r t′
 
 -- the keys of a live key's slot are that key
-pub row-changed : {cells : List ℕ} {t t′ : List ℤ} {v : Version} {one two a b : ℤ} {r : Placed}
-    → badTable t ≡ false → broken (keyed t one two) v ≡ false → notLive t one two ≡ false
-    → Leaves 0 t (keySlot t one two) (changed cells (runNumber v) (keyed t one two) one two a b) r t′
-    → RowChanged cells t v one two a b r t′
-row-changed {cells} {t} {t′} {v} {one} {two} {a} {b} {r} sound formed live w =
-    let key = live-keyed t one two sound (not-no live) in
-    let y = ap₂ (λ p q. changed cells (runNumber v) (keyed t one two) p q a b) (sym (key .key1)) (sym (key .key2)) in
-    record { leaves = passed (skip _ _ formed ∙ skip _ _ live ∙ done) (subst (λ z. Leaves 0 t (keySlot t one two) z r t′) y w) }
+pub row-changed : {cells : List ℕ} {t t′ : List ℤ} {v : VersionRecord} {key1 key2 total1 total2 : ℤ} {r : Placed}
+    → badTable t ≡ false → broken (keyed t key1 key2) v ≡ false → notLive t key1 key2 ≡ false
+    → Leaves 0 t (keySlot t key1 key2) (changed cells (runNumber v) (keyed t key1 key2) key1 key2 total1 total2) r t′
+    → RowChanged cells t v key1 key2 total1 total2 r t′
+row-changed {cells} {t} {t′} {v} {key1} {key2} {total1} {total2} {r} sound formed live w =
+    let key = live-keyed t key1 key2 sound (not-no live) in
+    let y = ap₂ (λ p q. changed cells (runNumber v) (keyed t key1 key2) p q total1 total2) (sym (key .key1)) (sym (key .key2)) in
+    record { leaves = passed (skip _ _ formed ∙ skip _ _ live ∙ done) (subst (λ z. Leaves 0 t (keySlot t key1 key2) z r t′) y w) }
 
 -- ---- each contract is that its change leaves this
-pub insert-leaves : {t t′ : List ℤ} {v : Version} {one two a b : ℤ} {r : Placed}
-    → Leaves (insertRefusal t v one two a b) t (insertSlot t v one two) (inserted (runNumber v) (keyed t one two) one two a b) r t′
-    → Inserted t v one two a b r t′
+pub insert-leaves : {t t′ : List ℤ} {v : VersionRecord} {key1 key2 total1 total2 : ℤ} {r : Placed}
+    → Leaves (insertRefusal t v key1 key2 total1 total2) t (insertSlot t v key1 key2) (inserted (runNumber v) (keyed t key1 key2) key1 key2 total1 total2) r t′
+    → InsertContract t v key1 key2 total1 total2 r t′
 unfolding insertAnswer insertWords
 insert-leaves w = record { answer = w .answer; words = w .words }
 
-pub update-leaves : {t t′ : List ℤ} {v : Version} {one two a b : ℤ} {r : Placed}
-    → Leaves (updateRefusal t v one two a b) t (keySlot t one two) (updated (runNumber v) (keyed t one two) a b) r t′
-    → Updated t v one two a b r t′
+pub update-leaves : {t t′ : List ℤ} {v : VersionRecord} {key1 key2 total1 total2 : ℤ} {r : Placed}
+    → Leaves (updateRefusal t v key1 key2 total1 total2) t (keySlot t key1 key2) (updated (runNumber v) (keyed t key1 key2) total1 total2) r t′
+    → UpdateContract t v key1 key2 total1 total2 r t′
 unfolding updateAnswer updateWords
 update-leaves w = record { answer = w .answer; words = w .words }
 
-pub delete-leaves : {t t′ : List ℤ} {v : Version} {one two : ℤ} {r : Placed}
-    → Leaves (deleteRefusal t v one two) t (keySlot t one two) (deleted (runNumber v) (keyed t one two)) r t′
-    → Deleted t v one two r t′
+pub delete-leaves : {t t′ : List ℤ} {v : VersionRecord} {key1 key2 : ℤ} {r : Placed}
+    → Leaves (deleteRefusal t v key1 key2) t (keySlot t key1 key2) (deleted (runNumber v) (keyed t key1 key2)) r t′
+    → DeleteContract t v key1 key2 r t′
 unfolding deleteAnswer deleteWords
 delete-leaves w = record { answer = w .answer; words = w .words }

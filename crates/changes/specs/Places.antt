@@ -9,50 +9,50 @@ use lib.IntN.{ℤ}
 use borrow.Author.Tests.{ltb-true}
 use Rattle.laws.specs.Tests.{not-no}
 use Rattle.laws.specs.First.{none}
-use Rattle.version.specs.declared.Version.{Version}
+use Rattle.versions.specs.declared.VersionRecord.{VersionRecord}
 use Rattle.table.specs.Slots.{badTable, slots}
 use Rattle.table.specs.SlotLaws.{lengths}
-use Rattle.searches.specs.KeyLaws.{live-placed}
+use Rattle.table_searches.specs.KeyLaws.{live-placed}
 use Rattle.changes.specs.declared.Placed.{Placed}
-use Rattle.changes.specs.declared.Placed.the-variants.{At, Refused}
+use Rattle.changes.specs.declared.Placed.the-variants.{InSlot, Refused}
 use Rattle.changes.specs.Insert.{insertRefusal, insertAnswer}
 use Rattle.changes.specs.Update.{updateRefusal, updateAnswer}
 use Rattle.changes.specs.Delete.{deleteRefusal, deleteAnswer}
-use Rattle.changes.specs.Outcomes.{Refuses, Accepts, insert-refuses, insert-accepts, update-refuses, update-accepts, delete-refuses, delete-accepts}
+use Rattle.changes.specs.ChangeOutcomes.{ChangeRefuses, ChangeAccepts, insert-refuses, insert-accepts, update-refuses, update-accepts, delete-refuses, delete-accepts}
 
 abbrev pub mostSlots : ℕ
 mostSlots = 1024
 
 pub data Numbers : Placed → Type 0 where
-  slot : {k : ℕ} → k < mostSlots → Numbers (At k)
+  slot : {k : ℕ} → k < mostSlots → Numbers (InSlot k)
   refusal : {n : ℕ} → Numbers (Refused n)
 
-pub slot-low : {k : ℕ} → Numbers (At k) → k < mostSlots
+pub slot-low : {k : ℕ} → Numbers (InSlot k) → k < mostSlots
 slot-low (slot l) = l
 
 -- what is refused, or is accepted at a slot of the table
-numbers : {n k : ℕ} {t t′ : List ℤ} {v : Version} {r : Placed} → ((m : ℕ) → n ≡ suc m → Refuses (suc m) t r t′)
-    → (n ≡ 0 → Accepts v k r) → (n ≡ 0 → k < mostSlots) → Numbers r
+numbers : {n k : ℕ} {t t′ : List ℤ} {v : VersionRecord} {r : Placed} → ((m : ℕ) → n ≡ suc m → ChangeRefuses (suc m) t r t′)
+    → (n ≡ 0 → ChangeAccepts v k r) → (n ≡ 0 → k < mostSlots) → Numbers r
 numbers {n = zero} refuses accepts low = rw (accepts refl .answer) (slot (low refl))
 numbers {n = suc m} refuses accepts low = rw (refuses m refl .answer) refusal
 
 low : (t : List ℤ) (k : ℕ) → badTable t ≡ false → k < slots t → k < mostSlots
 low t k h l = let few = lengths t h .few in omega arith
 
-pub insert-numbers : (t : List ℤ) (v : Version) (one two a b : ℤ) → Numbers (insertAnswer t v one two a b)
+pub insert-numbers : (t : List ℤ) (v : VersionRecord) (key1 key2 total1 total2 : ℤ) → Numbers (insertAnswer t v key1 key2 total1 total2)
 unfolding insertRefusal
-insert-numbers t v one two a b =
-    numbers {n = insertRefusal t v one two a b} (insert-refuses t v one two a b) (insert-accepts t v one two a b)
+insert-numbers t v key1 key2 total1 total2 =
+    numbers {n = insertRefusal t v key1 key2 total1 total2} (insert-refuses t v key1 key2 total1 total2) (insert-accepts t v key1 key2 total1 total2)
     (λ h. let no = none _ tt h in low t _ (no 1) (ltb-true _ _ (not-no (no 12))))
 
-pub update-numbers : (t : List ℤ) (v : Version) (one two a b : ℤ) → Numbers (updateAnswer t v one two a b)
+pub update-numbers : (t : List ℤ) (v : VersionRecord) (key1 key2 total1 total2 : ℤ) → Numbers (updateAnswer t v key1 key2 total1 total2)
 unfolding updateRefusal
-update-numbers t v one two a b =
-    numbers {n = updateRefusal t v one two a b} (update-refuses t v one two a b) (update-accepts t v one two a b)
-    (λ h. let no = none _ tt h in low t _ (no 1) (live-placed t one two (no 1) (not-no (no 11))))
+update-numbers t v key1 key2 total1 total2 =
+    numbers {n = updateRefusal t v key1 key2 total1 total2} (update-refuses t v key1 key2 total1 total2) (update-accepts t v key1 key2 total1 total2)
+    (λ h. let no = none _ tt h in low t _ (no 1) (live-placed t key1 key2 (no 1) (not-no (no 11))))
 
-pub delete-numbers : (t : List ℤ) (v : Version) (one two : ℤ) → Numbers (deleteAnswer t v one two)
+pub delete-numbers : (t : List ℤ) (v : VersionRecord) (key1 key2 : ℤ) → Numbers (deleteAnswer t v key1 key2)
 unfolding deleteRefusal
-delete-numbers t v one two =
-    numbers {n = deleteRefusal t v one two} (delete-refuses t v one two) (delete-accepts t v one two)
-    (λ h. let no = none _ tt h in low t _ (no 1) (live-placed t one two (no 1) (not-no (no 11))))
+delete-numbers t v key1 key2 =
+    numbers {n = deleteRefusal t v key1 key2} (delete-refuses t v key1 key2) (delete-accepts t v key1 key2)
+    (λ h. let no = none _ tt h in low t _ (no 1) (live-placed t key1 key2 (no 1) (not-no (no 11))))

@@ -6,27 +6,27 @@ use Prim.Native.Nat.{ℕ}
 use lib.IntN.{ℤ}
 use Rattle.laws.specs.Tests.{not-no}
 use Rattle.laws.specs.First.{first, none}
-use Rattle.version.specs.declared.Version.{Version}
-use Rattle.version.specs.Record.{badRecord, idle}
+use Rattle.versions.specs.declared.VersionRecord.{VersionRecord}
+use Rattle.versions.specs.Record.{badRecord, idle}
 use Rattle.table.specs.Slots.{badTable}
 
-abbrev pub runningTests : List ℤ → Version → List (Bool × ℕ)
+abbrev pub runningTests : List ℤ → VersionRecord → List (Bool × ℕ)
 runningTests t v =
     (badTable t, 1)
     ∷ (badRecord v, 2)
     ∷ (idle v, 8)
     ∷ []
 
-unfoldable pub runningRefusal : List ℤ → Version → ℕ
+unfoldable pub runningRefusal : List ℤ → VersionRecord → ℕ
 runningRefusal t v = first (runningTests t v)
 
 -- ---- where none of them is given
-pub record Running (t : List ℤ) (v : Version) : Type 0 where
+pub record Running (t : List ℤ) (v : VersionRecord) : Type 0 where
   pub table : badTable t ≡ false
   pub known : badRecord v ≡ false
   pub active : v .active ≡ true
 
-pub running : (t : List ℤ) (v : Version) → runningRefusal t v ≡ 0 → Running t v
+pub running : (t : List ℤ) (v : VersionRecord) → runningRefusal t v ≡ 0 → Running t v
 unfolding runningRefusal
 running t v h =
     let no = none _ tt h in

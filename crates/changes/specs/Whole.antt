@@ -8,41 +8,41 @@ use lib.Dec.{eqb}
 use lib.IntN.{ℤ}
 use borrow.Author.Tests.{eqb-true, eqb-false}
 use Rattle.laws.specs.Tests.{by-test}
-use Rattle.version.specs.declared.Version.{Version}
+use Rattle.versions.specs.declared.VersionRecord.{VersionRecord}
 use Rattle.table.specs.declared.Slot.{Slot}
 use Rattle.table.specs.Slots.{badTable, slots, slotAt, putSlot}
 use Rattle.table.specs.SlotLaws.{put-same, put-other, put-sound}
 use Rattle.table.specs.Formed.{wellFormed}
-use Rattle.searches.specs.Keys.{hasKey}
+use Rattle.table_searches.specs.Keys.{hasKey}
 use Rattle.reads.specs.declared.Seen.{Seen}
 use Rattle.changes.specs.Effects.{Effect}
 
 -- no key has two slots
 abbrev pub KeysApart : List ℤ → Type 0
-KeysApart t = (i j : ℕ) (one two : ℤ) → hasKey (slotAt t i) one two ≡ true → hasKey (slotAt t j) one two ≡ true → i ≡ j
+KeysApart t = (i j : ℕ) (key1 key2 : ℤ) → hasKey (slotAt t i) key1 key2 ≡ true → hasKey (slotAt t j) key1 key2 ≡ true → i ≡ j
 
-pub record Whole (t : List ℤ) (v : Version) : Type 0 where
+pub record Whole (t : List ℤ) (v : VersionRecord) : Type 0 where
   pub shape : badTable t ≡ false
   pub formed : (k : ℕ) → wellFormed (slotAt t k) v ≡ true
 
 -- what an accepted change of a key leaves: slot k is written, to the effect that the change says, and no other slot has the key
-pub record Wrote (t : List ℤ) (v : Version) (one two : ℤ) (after : Seen) (k : ℕ) (t′ : List ℤ) : Type 0 where
+pub record Wrote (t : List ℤ) (v : VersionRecord) (key1 key2 : ℤ) (after : Seen) (k : ℕ) (t′ : List ℤ) : Type 0 where
   pub slot : Slot
   pub place : k < slots t
   pub words : t′ ≡ putSlot t k slot
-  pub alone : (j : ℕ) → (j ≡ k → ⊥) → hasKey (slotAt t j) one two ≡ false
-  pub effect : Effect v (slotAt t k) slot one two after
+  pub alone : (j : ℕ) → (j ≡ k → ⊥) → hasKey (slotAt t j) key1 key2 ≡ false
+  pub effect : Effect v (slotAt t k) slot key1 key2 after
 
 -- ---- every slot after the write is the written one, or the one that stood there
 pub by-place : {P : Type 0} (j k : ℕ) → (j ≡ k → P) → ((j ≡ k → ⊥) → P) → P
 by-place j k f g = by-test (eqb j k) (λ y. f (eqb-true j k y)) (λ n. g (eqb-false j k n))
 
 -- where no key has two slots, a key's slot is the only one that has it
-pub only-slot : (t : List ℤ) → KeysApart t → (k : ℕ) (one two : ℤ) → hasKey (slotAt t k) one two ≡ true
-    → (j : ℕ) → (j ≡ k → ⊥) → hasKey (slotAt t j) one two ≡ false
-only-slot t d k one two h j ne = by-test (hasKey (slotAt t j) one two) (λ y. absurd (ne (d j k one two y h))) (λ n. n)
+pub only-slot : (t : List ℤ) → KeysApart t → (k : ℕ) (key1 key2 : ℤ) → hasKey (slotAt t k) key1 key2 ≡ true
+    → (j : ℕ) → (j ≡ k → ⊥) → hasKey (slotAt t j) key1 key2 ≡ false
+only-slot t d k key1 key2 h j ne = by-test (hasKey (slotAt t j) key1 key2) (λ y. absurd (ne (d j k key1 key2 y h))) (λ n. n)
 
-module _ (t : List ℤ) (v : Version) (one two : ℤ) (after : Seen) (k : ℕ) (t′ : List ℤ) (whole : Whole t v) (w : Wrote t v one two after k t′) where
+module _ (t : List ℤ) (v : VersionRecord) (key1 key2 : ℤ) (after : Seen) (k : ℕ) (t′ : List ℤ) (whole : Whole t v) (w : Wrote t v key1 key2 after k t′) where
   pub written-slot : slotAt t′ k ≡ w .slot
   written-slot = rw (w .words) (put-same t k (w .slot) (whole .shape) (w .place))
 

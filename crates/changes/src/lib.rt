@@ -5,29 +5,29 @@ ghost use mathlib.Core.Path.{_≡_};
 ghost use mathlib.Core.Bool.{false, cond};
 ghost use Prim.Native.Nat.{_<_};
 ghost use lib.Dec.{ltb};
-ghost use Rattle.version.specs.Record.{badRecord};
+ghost use Rattle.versions.specs.Record.{badRecord};
 ghost use Rattle.table.specs.Slots.{badTable, slots};
 ghost use Rattle.table.specs.Formed.{broken};
-ghost use Rattle.searches.specs.Free.{freeSlot};
+ghost use Rattle.table_searches.specs.Free.{freeSlot};
 ghost use Rattle.changes.specs.Running.{runningRefusal};
-ghost use Rattle.changes.specs.Insert.{Inserted};
-ghost use Rattle.changes.specs.Update.{Updated};
-ghost use Rattle.changes.specs.Delete.{Deleted};
+ghost use Rattle.changes.specs.Insert.{InsertContract};
+ghost use Rattle.changes.specs.Update.{UpdateContract};
+ghost use Rattle.changes.specs.Delete.{DeleteContract};
 ghost use Rattle.changes.specs.PlacedLaws.{givenRefusal, Leaves, RowAdded, RowChanged};
-use cells::CORRECT;
-use cells::ERASE;
-use cells::MARK;
-use cells::NEVER;
-use cells::NEW;
-use cells::REMOVE;
-use cells::RESTORE;
-use cells::SAVE;
+use changes_cells::CORRECT;
+use changes_cells::ERASE;
+use changes_cells::MARK;
+use changes_cells::NEVER;
+use changes_cells::NEW;
+use changes_cells::REMOVE;
+use changes_cells::RESTORE;
+use changes_cells::SAVE;
 use table::Slot;
-use version::Version;
+use versions::VersionRecord;
 
 // What a change answers: the slot that it wrote, or a refusal.
 pub enum Placed {
-    At(usize),
+    InSlot(usize),
     Refused(u32),
 }
 
@@ -39,30 +39,30 @@ const TABLE_3: [u8; 8] = [NEVER, SAVE, SAVE, NEVER, NEVER, CORRECT, CORRECT, NEV
 const TABLE_4: [u8; 8] = [NEVER, REMOVE, REMOVE, NEVER, NEVER, ERASE, MARK, NEVER];
 
 // The refusals that begin every change's: 1, 2, 8; 0 for none.
-fn running_refusal(table: &[i64], version: Version) -> u32
-    ensures { λ r. ⌜ r ≡ runningRefusal (now (table .entry)) version ⌝ }
+fn running_refusal(table: &[i64], versions: VersionRecord) -> u32
+    ensures { λ r. ⌜ r ≡ runningRefusal (now (table .entry)) versions ⌝ }
 {
     if table::bad_table(table) {
         return 1;
     }
-    if version::bad_record(version) {
+    if versions::bad_record(versions) {
         return 2;
     }
-    if !version.active {
+    if !versions.active {
         return 8;
     }
     0
 }
 
 // The refusals that begin insert's and update's: 1, 2, 8, 13; 0 for none.
-fn given_refusal(table: &[i64], version: Version, first: i64, second: i64) -> u32
-    ensures { λ r. ⌜ r ≡ givenRefusal (now (table .entry)) version first second ⌝ }
+fn given_refusal(table: &[i64], versions: VersionRecord, total1: i64, total2: i64) -> u32
+    ensures { λ r. ⌜ r ≡ givenRefusal (now (table .entry)) versions total1 total2 ⌝ }
 {
-    let refusal = running_refusal(table, version);
+    let refusal = running_refusal(table, versions);
     if refusal != 0 {
         return refusal;
     }
-    if table::is_unlawful(first, second) {
+    if table::is_unlawful(total1, total2) {
         return 13;
     }
     0
@@ -75,78 +75,78 @@ fn place(table: &mut [i64], k: usize, x: Slot) -> Placed
     ensures { λ r. ⌜ Leaves 0 (now (table .entry)) k x r (now (table .exit)) ⌝ }
 {
     table::put_slot(table, k, x);
-    Placed::At(k)
+    Placed::InSlot(k)
 }
 
 // Refusal 6, of the key's slot.
-fn is_broken(x: Slot, version: Version) -> bool
-    requires { ⌜ badRecord version ≡ false ⌝ }
-    ensures { λ r. ⌜ r ≡ broken x version ⌝ }
+fn is_broken(x: Slot, versions: VersionRecord) -> bool
+    requires { ⌜ badRecord versions ≡ false ⌝ }
+    ensures { λ r. ⌜ r ≡ broken x versions ⌝ }
 {
-    !table::well_formed(x, version)
+    !table::well_formed(x, versions)
 }
 
 // The number of the slot that an insert takes: that of the key's, or where the key has none that of a free one.
-fn slot_to_take(table: &[i64], version: Version, k: usize) -> usize
+fn slot_to_take(table: &[i64], versions: VersionRecord, k: usize) -> usize
     requires { ⌜ badTable (now table) ≡ false ⌝ }
-    requires { ⌜ badRecord version ≡ false ⌝ }
-    ensures { λ r. ⌜ r ≡ cond (ltb k (slots (now (table .entry)))) k (freeSlot (now (table .entry)) version) ⌝ }
+    requires { ⌜ badRecord versions ≡ false ⌝ }
+    ensures { λ r. ⌜ r ≡ cond (ltb k (slots (now (table .entry)))) k (freeSlot (now (table .entry)) versions) ⌝ }
 {
     if k < table.len() / table::SLOT_WORDS {
         return k;
     }
-    searches::free_slot(table, version)
+    table_searches::free_slot(table, versions)
 }
 
 // An insert past 13: 6, 10, 12, and the write by Table 2.
 fn add_row(
     table: &mut [i64],
-    version: Version,
-    one: i64,
-    two: i64,
-    first: i64,
-    second: i64,
+    versions: VersionRecord,
+    key1: i64,
+    key2: i64,
+    total1: i64,
+    total2: i64,
 ) -> Placed
     requires { ⌜ badTable (now table) ≡ false ⌝ }
-    requires { ⌜ badRecord version ≡ false ⌝ }
-    ensures { λ r. ⌜ RowAdded (now (table .entry)) version one two first second r (now (table .exit)) ⌝ }
+    requires { ⌜ badRecord versions ≡ false ⌝ }
+    ensures { λ r. ⌜ RowAdded (now (table .entry)) versions key1 key2 total1 total2 r (now (table .exit)) ⌝ }
 {
-    let k = searches::key_slot(table, one, two);
+    let k = table_searches::key_slot(table, key1, key2);
     let x = table::slot_at(table, k);
-    if is_broken(x, version) {
+    if is_broken(x, versions) {
         return Placed::Refused(6);
     }
     if table::is_live(x) {
         return Placed::Refused(10);
     }
-    let taken = slot_to_take(table, version, k);
+    let taken = slot_to_take(table, versions, k);
     if taken >= table.len() / table::SLOT_WORDS {
         return Placed::Refused(12);
     }
     place(
         table,
         taken,
-        cells::change(TABLE_2, version, x, one, two, first, second),
+        changes_cells::change(TABLE_2, versions, x, key1, key2, total1, total2),
     )
 }
 
 // An update past 13 and a delete past 8: 6, 11, and the write by its table.
 fn change_row(
     table: &mut [i64],
-    version: Version,
+    versions: VersionRecord,
     cells: [u8; 8],
-    one: i64,
-    two: i64,
-    first: i64,
-    second: i64,
+    key1: i64,
+    key2: i64,
+    total1: i64,
+    total2: i64,
 ) -> Placed
     requires { ⌜ badTable (now table) ≡ false ⌝ }
-    requires { ⌜ badRecord version ≡ false ⌝ }
-    ensures { λ r. ⌜ RowChanged cells (now (table .entry)) version one two first second r (now (table .exit)) ⌝ }
+    requires { ⌜ badRecord versions ≡ false ⌝ }
+    ensures { λ r. ⌜ RowChanged cells (now (table .entry)) versions key1 key2 total1 total2 r (now (table .exit)) ⌝ }
 {
-    let k = searches::key_slot(table, one, two);
+    let k = table_searches::key_slot(table, key1, key2);
     let x = table::slot_at(table, k);
-    if is_broken(x, version) {
+    if is_broken(x, versions) {
         return Placed::Refused(6);
     }
     if !table::is_live(x) {
@@ -155,53 +155,53 @@ fn change_row(
     place(
         table,
         k,
-        cells::change(cells, version, x, one, two, first, second),
+        changes_cells::change(cells, versions, x, key1, key2, total1, total2),
     )
 }
 
 // Insert: 1, 2, 8, 13, 6, 10, 12.
 pub fn insert(
     table: &mut [i64],
-    version: Version,
-    one: i64,
-    two: i64,
-    first: i64,
-    second: i64,
+    versions: VersionRecord,
+    key1: i64,
+    key2: i64,
+    total1: i64,
+    total2: i64,
 ) -> Placed
-    ensures { λ r. ⌜ Inserted (now (table .entry)) version one two first second r (now (table .exit)) ⌝ }
+    ensures { λ r. ⌜ InsertContract (now (table .entry)) versions key1 key2 total1 total2 r (now (table .exit)) ⌝ }
 {
-    let refusal = given_refusal(table, version, first, second);
+    let refusal = given_refusal(table, versions, total1, total2);
     if refusal != 0 {
         return Placed::Refused(refusal);
     }
-    add_row(table, version, one, two, first, second)
+    add_row(table, versions, key1, key2, total1, total2)
 }
 
 // Update: 1, 2, 8, 13, 6, 11.
 pub fn update(
     table: &mut [i64],
-    version: Version,
-    one: i64,
-    two: i64,
-    first: i64,
-    second: i64,
+    versions: VersionRecord,
+    key1: i64,
+    key2: i64,
+    total1: i64,
+    total2: i64,
 ) -> Placed
-    ensures { λ r. ⌜ Updated (now (table .entry)) version one two first second r (now (table .exit)) ⌝ }
+    ensures { λ r. ⌜ UpdateContract (now (table .entry)) versions key1 key2 total1 total2 r (now (table .exit)) ⌝ }
 {
-    let refusal = given_refusal(table, version, first, second);
+    let refusal = given_refusal(table, versions, total1, total2);
     if refusal != 0 {
         return Placed::Refused(refusal);
     }
-    change_row(table, version, TABLE_3, one, two, first, second)
+    change_row(table, versions, TABLE_3, key1, key2, total1, total2)
 }
 
 // Delete: 1, 2, 8, 6, 11. It gives no totals.
-pub fn delete(table: &mut [i64], version: Version, one: i64, two: i64) -> Placed
-    ensures { λ r. ⌜ Deleted (now (table .entry)) version one two r (now (table .exit)) ⌝ }
+pub fn delete(table: &mut [i64], versions: VersionRecord, key1: i64, key2: i64) -> Placed
+    ensures { λ r. ⌜ DeleteContract (now (table .entry)) versions key1 key2 r (now (table .exit)) ⌝ }
 {
-    let refusal = running_refusal(table, version);
+    let refusal = running_refusal(table, versions);
     if refusal != 0 {
         return Placed::Refused(refusal);
     }
-    change_row(table, version, TABLE_4, one, two, 0, 0)
+    change_row(table, versions, TABLE_4, key1, key2, 0, 0)
 }

@@ -6,13 +6,13 @@ use lib.IntN.{ℤ, pos, negsuc}
 use Rattle.laws.specs.Tests.{all, any}
 use Rattle.laws.specs.First.{first}
 use Rattle.laws.specs.Lowest.{lowest, some}
-use Rattle.version.specs.Record.{badRecord, freshRecord}
+use Rattle.versions.specs.Record.{badRecord, freshRecord}
 use Rattle.table.specs.Slots.{freshTable, badTable, slotAt}
 use Rattle.table.specs.Totals.{lawful}
 use Rattle.table.specs.Formed.{allZeros, totalsLawful, usedWell, wellFormed}
-use Rattle.words.specs.Words.{checkPlace, bytesOf, blockOf, wordAt}
-use Rattle.blocks.specs.Headers.{headerWords}
-use Rattle.blocks.specs.Slots.{slotBlockWords, blockBroken}
+use Rattle.blocks_words.specs.Words.{checkPlace, bytesOf, blockOf, wordAt}
+use Rattle.blocks.specs.HeaderBlocks.{headerWords}
+use Rattle.blocks.specs.SlotBlocks.{slotBlockWords, blockBroken}
 use Rattle.blocks.specs.SaveHeader.{saveHeaderRefusal, saveHeaderBlock}
 use Rattle.blocks.specs.SaveBlock.{saveBlockRefusal, saveBlockBlock}
 use Rattle.figures.specs.Cases.{idleAt, runningAt}

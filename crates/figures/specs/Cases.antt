@@ -5,31 +5,31 @@ use mathlib.Core.Bool.{true, false}
 use mathlib.Core.List.{List, [], _∷_, _++_}
 use Prim.Native.Nat.{ℕ}
 use lib.IntN.{ℤ, pos, negsuc}
-use Rattle.version.specs.declared.Version.{Version}
+use Rattle.versions.specs.declared.VersionRecord.{VersionRecord}
 use Rattle.table.specs.Slots.{freshTable}
 use Rattle.calls.specs.Calls.{Call, begin, commit, readSlot, readKey, rollUp, insert, update, delete}
 
 pub record Case : Type 0 where
   pub words : List ℤ
-  pub version : Version
+  pub versions : VersionRecord
   pub calls : List Call
   pub numbers : List (List ℤ)
   pub words-after : List ℤ
-  pub version-after : Version
+  pub versions-after : VersionRecord
 
 -- ---- how a case is written
 -- a slot: run number, operation, key one, key two, current total one, old total one
 abbrev pub slot : ℕ → ℕ → ℕ → ℕ → ℕ → ℕ → List ℤ
-slot run operation one two current old =
-    pos run ∷ pos operation ∷ pos one ∷ pos two ∷ pos current ∷ pos 0 ∷ pos old ∷ pos 0 ∷ []
+slot run operation key1 key2 current old =
+    pos run ∷ pos operation ∷ pos key1 ∷ pos key2 ∷ pos current ∷ pos 0 ∷ pos old ∷ pos 0 ∷ []
 
 abbrev pub zeros : List ℤ
 zeros = freshTable 1
 
-abbrev pub idleAt : ℕ → Version
+abbrev pub idleAt : ℕ → VersionRecord
 idleAt n = record { current = pos n; active = false }
 
-abbrev pub runningAt : ℕ → Version
+abbrev pub runningAt : ℕ → VersionRecord
 runningAt n = record { current = pos n; active = true }
 
 -- the numbers of an answer: a version, a slot number, a row, no row, the sums of a roll-up, and a refusal of each kind
@@ -40,7 +40,7 @@ abbrev pub at : ℕ → List ℤ
 at k = pos 0 ∷ pos k ∷ []
 
 abbrev pub row : ℕ → ℕ → ℕ → List ℤ
-row one two total = pos 0 ∷ pos 1 ∷ pos one ∷ pos two ∷ pos total ∷ pos 0 ∷ []
+row key1 key2 total = pos 0 ∷ pos 1 ∷ pos key1 ∷ pos key2 ∷ pos total ∷ pos 0 ∷ []
 
 abbrev pub none : List ℤ
 none = pos 0 ∷ pos 0 ∷ pos 0 ∷ pos 0 ∷ pos 0 ∷ pos 0 ∷ []
@@ -69,7 +69,7 @@ figure4 =
 -- a read of Figure 4 that changes nothing, at current 4 with no run
 abbrev pub figure4Read : List Call → List (List ℤ) → Case
 figure4Read calls numbers =
-    record { words = figure4; version = idleAt 4; calls = calls; numbers = numbers; words-after = figure4; version-after = idleAt 4 }
+    record { words = figure4; versions = idleAt 4; calls = calls; numbers = numbers; words-after = figure4; versions-after = idleAt 4 }
 
 -- session 3: 10,000; none; 10,000; 8,000
 abbrev pub session3 : Case
@@ -108,11 +108,11 @@ rollUps =
 abbrev pub afterBegin : Case
 afterBegin = record {
   words = figure4;
-  version = idleAt 4;
+  versions = idleAt 4;
   calls = begin ∷ readSlot (pos 3) 0 ∷ readKey (pos 3) (pos 1) (pos 19961014) ∷ rollUp (pos 3) (pos 1) ∷ readSlot (pos 4) 0 ∷ [];
   numbers = version 5 ∷ readRefused 4 ∷ readRefused 4 ∷ rollUpRefused 4 ∷ row 1 19961014 10000 ∷ [];
   words-after = figure4;
-  version-after = runningAt 4;
+  versions-after = runningAt 4;
 }
 
 -- Figure 5's changes in its order, run 5, give: slot 0 update 10,200 old 10,000; slot 1 untouched; slot 2 delete 12,000 old
@@ -120,7 +120,7 @@ afterBegin = record {
 abbrev pub figure5 : Case
 figure5 = record {
   words = figure4;
-  version = idleAt 4;
+  versions = idleAt 4;
   calls = begin
       ∷ insert (pos 1) (pos 19961016) (pos 11000) (pos 0)
       ∷ insert (pos 3) (pos 19961013) (pos 6000) (pos 0)
@@ -133,42 +133,42 @@ figure5 = record {
       ++ slot 5 3 2 19961014 12000 12000
       ++ slot 5 1 1 19961016 11000 0
       ++ slot 5 1 3 19961013 6000 0;
-  version-after = runningAt 4;
+  versions-after = runningAt 4;
 }
 
 -- insert then update in one run stays insert
 abbrev pub insertThenUpdate : Case
 insertThenUpdate = record {
   words = zeros;
-  version = idleAt 1;
+  versions = idleAt 1;
   calls = begin ∷ insert (pos 1) (pos 19961014) (pos 10000) (pos 0) ∷ update (pos 1) (pos 19961014) (pos 10200) (pos 0)
       ∷ readKey (pos 1) (pos 1) (pos 19961014) ∷ [];
   numbers = version 2 ∷ at 0 ∷ at 0 ∷ none ∷ [];
   words-after = slot 2 1 1 19961014 10200 0;
-  version-after = runningAt 1;
+  versions-after = runningAt 1;
 }
 
 -- delete then insert in one run is update
 abbrev pub deleteThenInsert : Case
 deleteThenInsert = record {
   words = slot 2 1 1 19961014 10000 0;
-  version = idleAt 2;
+  versions = idleAt 2;
   calls = begin ∷ delete (pos 1) (pos 19961014) ∷ insert (pos 1) (pos 19961014) (pos 7000) (pos 0)
       ∷ readKey (pos 2) (pos 1) (pos 19961014) ∷ [];
   numbers = version 3 ∷ at 0 ∷ at 0 ∷ row 1 19961014 10000 ∷ [];
   words-after = slot 3 2 1 19961014 7000 10000;
-  version-after = runningAt 2;
+  versions-after = runningAt 2;
 }
 
 -- insert then delete of a new key leaves zeros
 abbrev pub insertThenDelete : Case
 insertThenDelete = record {
   words = zeros;
-  version = idleAt 1;
+  versions = idleAt 1;
   calls = begin ∷ insert (pos 1) (pos 19961014) (pos 10000) (pos 0) ∷ delete (pos 1) (pos 19961014) ∷ [];
   numbers = version 2 ∷ at 0 ∷ at 0 ∷ [];
   words-after = zeros;
-  version-after = runningAt 1;
+  versions-after = runningAt 1;
 }
 
 -- one slot, its key live at the last commit and deleted by this run: insert of another key is refused 12; in the next run it
@@ -176,19 +176,19 @@ insertThenDelete = record {
 abbrev pub oneSlot : Case
 oneSlot = record {
   words = slot 2 1 1 19961014 10000 0;
-  version = idleAt 2;
+  versions = idleAt 2;
   calls = begin ∷ delete (pos 1) (pos 19961014) ∷ insert (pos 2) (pos 19961014) (pos 500) (pos 0)
       ∷ commit ∷ begin ∷ insert (pos 2) (pos 19961014) (pos 500) (pos 0) ∷ [];
   numbers = version 3 ∷ at 0 ∷ changeRefused 12 ∷ version 3 ∷ version 4 ∷ at 0 ∷ [];
   words-after = slot 4 1 2 19961014 500 0;
-  version-after = runningAt 3;
+  versions-after = runningAt 3;
 }
 
 -- a total of 10^15 is accepted, 10^15 + 1 refused 13; and, ours, so at the other end, and of total two
 abbrev pub totals : Case
 totals = record {
   words = zeros;
-  version = runningAt 1;
+  versions = runningAt 1;
   calls = insert (pos 1) (pos 19961014) (pos 1000000000000000) (pos 0)
       ∷ update (pos 1) (pos 19961014) (pos 1000000000000001) (pos 0)
       ∷ update (pos 1) (pos 19961014) (negsuc 999999999999999) (pos 1000000000000000)
@@ -197,19 +197,19 @@ totals = record {
       ∷ [];
   numbers = at 0 ∷ changeRefused 13 ∷ at 0 ∷ changeRefused 13 ∷ changeRefused 13 ∷ [];
   words-after = pos 2 ∷ pos 1 ∷ pos 1 ∷ pos 19961014 ∷ negsuc 999999999999999 ∷ pos 1000000000000000 ∷ pos 0 ∷ pos 0 ∷ [];
-  version-after = runningAt 1;
+  versions-after = runningAt 1;
 }
 
 -- ours, the incident: a run corrects one row twice; an open session reads the totals from before the run
 abbrev pub correctedTwice : Case
 correctedTwice = record {
   words = slot 2 1 1 19961014 10000 0;
-  version = idleAt 2;
+  versions = idleAt 2;
   calls = begin ∷ update (pos 1) (pos 19961014) (pos 10200) (pos 0) ∷ update (pos 1) (pos 19961014) (pos 10300) (pos 0)
       ∷ readKey (pos 2) (pos 1) (pos 19961014) ∷ rollUp (pos 2) (pos 1) ∷ commit ∷ readKey (pos 3) (pos 1) (pos 19961014) ∷ [];
   numbers = version 3 ∷ at 0 ∷ at 0 ∷ row 1 19961014 10000 ∷ sums 1 10000 ∷ version 3 ∷ row 1 19961014 10300 ∷ [];
   words-after = slot 3 2 1 19961014 10300 10000;
-  version-after = idleAt 3;
+  versions-after = idleAt 3;
 }
 
 abbrev pub cases : List Case

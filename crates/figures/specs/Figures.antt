@@ -7,21 +7,21 @@ use lib.IntN.{ℤ}
 use Rattle.laws.specs.Tests.{all, any}
 use Rattle.laws.specs.First.{first}
 use Rattle.laws.specs.Lowest.{lowest, some}
-use Rattle.version.specs.declared.Version.{Version}
-use Rattle.version.specs.Record.{badRecord}
-use Rattle.version.specs.Sessions.{unborn, expired}
-use Rattle.version.specs.Runs.{beginRefusal, beginAnswer, beginRecord, commitRefusal, commitAnswer, commitRecord}
+use Rattle.versions.specs.declared.VersionRecord.{VersionRecord}
+use Rattle.versions.specs.Record.{badRecord}
+use Rattle.versions.specs.Sessions.{unborn, expired}
+use Rattle.versions.specs.Runs.{beginRefusal, beginAnswer, beginRecord, commitRefusal, commitAnswer, commitRecord}
 use Rattle.table.specs.Slots.{badTable, slotAt, putSlot}
 use Rattle.table.specs.Operations.{column, live}
 use Rattle.table.specs.Totals.{lawful, unlawful}
 use Rattle.table.specs.Formed.{allZeros, totalsLawful, usedWell, wellFormed, anyBroken}
-use Rattle.searches.specs.Keys.{hasKey, keySlot}
-use Rattle.searches.specs.Free.{longDeleted, free, freeSlot}
+use Rattle.table_searches.specs.Keys.{hasKey, keySlot}
+use Rattle.table_searches.specs.Free.{longDeleted, free, freeSlot}
 use Rattle.reads.specs.Table1.{shown}
 use Rattle.reads.specs.ReadSlot.{readSlotRefusal, readSlotAnswer}
 use Rattle.reads.specs.ReadKey.{readKeyRefusal, readKeyAnswer}
 use Rattle.reads.specs.RollUp.{rollUpRefusal, rollUpAnswer}
-use Rattle.cells.specs.Tables.{changed}
+use Rattle.changes_cells.specs.Tables.{changed}
 use Rattle.changes.specs.Insert.{insertRefusal, insertAnswer, insertWords}
 use Rattle.changes.specs.Update.{updateRefusal, updateAnswer, updateWords}
 use Rattle.changes.specs.Delete.{deleteRefusal, deleteAnswer, deleteWords}
@@ -34,21 +34,21 @@ use Rattle.figures.specs.Cases.{Case, cases}
 pub record Outcome : Type 0 where
   pub numbers : List (List ℤ)
   pub words : List ℤ
-  pub version : Version
+  pub versions : VersionRecord
 
 abbrev pub expected : Case → Outcome
-expected c = record { numbers = c .numbers; words = c .words-after; version = c .version-after }
+expected c = record { numbers = c .numbers; words = c .words-after; versions = c .versions-after }
 
 -- the calls, one after the other
 abbrev pub perform-all : List Call → State → Outcome
-perform-all [] st = record { numbers = []; words = st .words; version = st .version }
+perform-all [] st = record { numbers = []; words = st .words; versions = st .versions }
 perform-all (call ∷ calls) st =
     let d = perform call st in
     let o = perform-all calls (d .state) in
-    record { numbers = numbers (d .answer) ∷ o .numbers; words = o .words; version = o .version }
+    record { numbers = numbers (d .answer) ∷ o .numbers; words = o .words; versions = o .versions }
 
 abbrev pub outcome : Case → Outcome
-outcome c = perform-all (c .calls) (record { words = c .words; version = c .version; block = [] })
+outcome c = perform-all (c .calls) (record { words = c .words; versions = c .versions; block = [] })
 
 pub figures : map outcome cases ≡ map expected cases
 unfolding all any first lowest some badRecord unborn expired beginRefusal beginAnswer beginRecord commitRefusal commitAnswer commitRecord badTable slotAt putSlot column live lawful unlawful allZeros totalsLawful usedWell wellFormed anyBroken hasKey keySlot longDeleted free freeSlot shown readSlotRefusal readSlotAnswer readKeyRefusal readKeyAnswer rollUpRefusal rollUpAnswer changed insertRefusal insertAnswer insertWords updateRefusal updateAnswer updateWords deleteRefusal deleteAnswer deleteWords

@@ -9,20 +9,20 @@ use lib.IntN.{ℤ, pos}
 use Rattle.laws.specs.Tests.{all, any}
 use Rattle.laws.specs.First.{first}
 use Rattle.laws.specs.Lowest.{lowest, some}
-use Rattle.version.specs.Record.{badRecord}
-use Rattle.version.specs.Sessions.{unborn, expired}
-use Rattle.version.specs.Runs.{beginRefusal, beginAnswer, beginRecord, commitRefusal, commitAnswer, commitRecord}
+use Rattle.versions.specs.Record.{badRecord}
+use Rattle.versions.specs.Sessions.{unborn, expired}
+use Rattle.versions.specs.Runs.{beginRefusal, beginAnswer, beginRecord, commitRefusal, commitAnswer, commitRecord}
 use Rattle.table.specs.Slots.{badTable, slotAt, putSlot}
 use Rattle.table.specs.Operations.{column, live}
 use Rattle.table.specs.Totals.{lawful, unlawful}
 use Rattle.table.specs.Formed.{allZeros, totalsLawful, usedWell, wellFormed, anyBroken}
-use Rattle.searches.specs.Keys.{hasKey, keySlot}
-use Rattle.searches.specs.Free.{longDeleted, free, freeSlot}
+use Rattle.table_searches.specs.Keys.{hasKey, keySlot}
+use Rattle.table_searches.specs.Free.{longDeleted, free, freeSlot}
 use Rattle.reads.specs.Table1.{shown}
 use Rattle.reads.specs.ReadSlot.{readSlotRefusal, readSlotAnswer}
 use Rattle.reads.specs.ReadKey.{readKeyRefusal, readKeyAnswer}
 use Rattle.reads.specs.RollUp.{rollUpRefusal, rollUpAnswer}
-use Rattle.cells.specs.Tables.{changed}
+use Rattle.changes_cells.specs.Tables.{changed}
 use Rattle.changes.specs.Insert.{insertRefusal, insertAnswer, insertWords}
 use Rattle.changes.specs.Update.{updateRefusal, updateAnswer, updateWords}
 use Rattle.changes.specs.Delete.{deleteRefusal, deleteAnswer, deleteWords}
@@ -59,9 +59,9 @@ insertedCorrected =
     after {K = twoVersions} (begin ∷ insert (pos 1) (pos 14) (pos 100) (pos 5) ∷ update (pos 1) (pos 14) (pos 110) (pos 5) ∷ []) (freshWorld twoVersions 1)
 
 -- a field is shown by what both sides of it come to
-read-as : (w : World twoVersions) (s : ℕ) (one two : ℤ) (r : Seen) → (IsGone w s → ⊥) → answerOf (readKey (pos s) one two) w ≡ answer.seen r
-    → found one two (databaseAt (w .told) s) ≡ r → KeyRead w s one two
-read-as w s one two r open-still got shown = record { gone = λ h. absurd (open-still h); kept = λ still. got ∙ ap answer.seen (sym shown) }
+read-as : (w : World twoVersions) (s : ℕ) (key1 key2 : ℤ) (r : Seen) → (IsGone w s → ⊥) → answerOf (readKey (pos s) key1 key2) w ≡ answer.seen r
+    → found key1 key2 (databaseAt (w .told) s) ≡ r → KeyRead w s key1 key2
+read-as w s key1 key2 r open-still got shown = record { gone = λ h. absurd (open-still h); kept = λ still. got ∙ ap answer.seen (sym shown) }
 
 pub record Held : Type 0 where
   -- 1. a session at 2 reads the row as it was before run 3, however often that corrects it

@@ -11,15 +11,15 @@ use lib.IntN.{pos}
 use Rattle.laws.specs.Tests.{all, any}
 use Rattle.laws.specs.First.{first}
 use Rattle.laws.specs.Lowest.{lowest, some}
-use Rattle.version.specs.Record.{badRecord}
-use Rattle.version.specs.Sessions.{unborn, expired}
-use Rattle.version.specs.Runs.{beginRefusal, beginAnswer, beginRecord, commitRefusal, commitAnswer, commitRecord}
+use Rattle.versions.specs.Record.{badRecord}
+use Rattle.versions.specs.Sessions.{unborn, expired}
+use Rattle.versions.specs.Runs.{beginRefusal, beginAnswer, beginRecord, commitRefusal, commitAnswer, commitRecord}
 use Rattle.table.specs.Slots.{badTable, slotAt, putSlot}
 use Rattle.table.specs.Operations.{column, live}
 use Rattle.table.specs.Totals.{lawful, unlawful}
 use Rattle.table.specs.Formed.{allZeros, totalsLawful, usedWell, wellFormed, anyBroken}
-use Rattle.searches.specs.Keys.{hasKey, keySlot}
-use Rattle.searches.specs.Free.{longDeleted, free, freeSlot}
+use Rattle.table_searches.specs.Keys.{hasKey, keySlot}
+use Rattle.table_searches.specs.Free.{longDeleted, free, freeSlot}
 use Rattle.reads.specs.declared.Seen.the-variants as seen
 use Rattle.reads.specs.declared.Rolled.the-variants as rolled
 use Rattle.reads.specs.Table1.{shown}
@@ -27,7 +27,7 @@ use Rattle.reads.specs.ReadSlot.{readSlotRefusal, readSlotAnswer}
 use Rattle.reads.specs.ReadKey.{readKeyRefusal, readKeyAnswer}
 use Rattle.reads.specs.RollUp.{rollUpRefusal, rollUpAnswer}
 use Rattle.changes.specs.declared.Placed.the-variants as placed
-use Rattle.cells.specs.Tables.{changed}
+use Rattle.changes_cells.specs.Tables.{changed}
 use Rattle.changes.specs.Insert.{insertRefusal, insertAnswer, insertWords}
 use Rattle.changes.specs.Update.{updateRefusal, updateAnswer, updateWords}
 use Rattle.changes.specs.Delete.{deleteRefusal, deleteAnswer, deleteWords}
@@ -38,7 +38,7 @@ use Rattle.calls.specs.Calls as answer
 use Rattle.history.specs.Databases.{Row, row, gives}
 use Rattle.history.specs.Followed.{databaseAt, running, Committed}
 use Rattle.history.specs.Kinds.{World, freshWorld, after, answerOf, NoLoad}
-use Rattle.history.specs.Sessions.{Turn, mine, other, answersGot, rowsGot}
+use Rattle.history.specs.SessionTurns.{Turn, mine, other, answersGot, rowsGot}
 use Rattle.history.specs.Demand.{IsGone, ReadsEach, IsFull}
 use Rattle.history.specs.TwoVersions.{twoVersions}
 
@@ -129,7 +129,7 @@ pub record Worked : Type 0 where
   pub full : answerOf {K = twoVersions} (insert (pos 2) (pos 14) (pos 300) (pos 0)) in3 ≡ answer.placed (placed.Refused 12)
   -- once run 4 has begun, session 2 is expired, and the third key takes slot 1
   pub expired-then : answerOf {K = twoVersions} (readSlot (pos 2) 0) in4 ≡ answer.seen (seen.Refused 4)
-  pub reused : answerOf {K = twoVersions} (insert (pos 2) (pos 14) (pos 300) (pos 0)) in4 ≡ answer.placed (placed.At 1)
+  pub reused : answerOf {K = twoVersions} (insert (pos 2) (pos 14) (pos 300) (pos 0)) in4 ≡ answer.placed (placed.InSlot 1)
 
 pub worked : Worked
 unfolding all any first lowest some badRecord unborn expired beginRefusal beginAnswer beginRecord commitRefusal commitAnswer commitRecord badTable slotAt putSlot column live lawful unlawful allZeros totalsLawful usedWell wellFormed anyBroken hasKey keySlot longDeleted free freeSlot shown readSlotRefusal readSlotAnswer rollUpRefusal rollUpAnswer changed insertRefusal insertAnswer insertWords updateRefusal updateAnswer updateWords deleteRefusal deleteAnswer deleteWords readKeyRefusal readKeyAnswer loadBlockRefusal loadBlockAnswer loadBlockWords

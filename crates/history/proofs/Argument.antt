@@ -16,7 +16,7 @@ use Rattle.history.specs.Databases.{upTo}
 use Rattle.history.specs.Followed.{current, Committed}
 use Rattle.history.specs.Kinds.{Kind, accepted, Size, World, freshWorld, answerOf, heardOf, next, after, isLoad, NoLoad}
 use Rattle.history.specs.Demand.{IsGone, Runs}
-use Rattle.history.proofs.Databases.{shows}
+use Rattle.history.proofs.DatabaseLaws.{shows}
 use Rattle.history.proofs.Views.{View, Place}
 use Rattle.history.proofs.Invariant.{Inv, Step, same-step, then}
 use Rattle.history.proofs.Fullness.{NoRoom}
@@ -32,12 +32,12 @@ pub record Went {K : Kind} (Sound : ℕ → World K → Type 0) (view : World K 
 
 -- ---- what reads of a world answer at a committed version: refused by 4 once it is gone, and else what the view shows
 pub record Reads {K : Kind} (T : View) (place : ℤ → ℤ → ℕ) (m : ℕ) (w : World K) : Type 0 where
-  pub key-gone : {s : ℕ} → Committed (w .told) s → IsGone w s → (one two : ℤ) → answerOf (K .readKey (pos s) one two) w ≡ answer.seen (seen.Refused 4)
-  pub key-shown : {s : ℕ} → Committed (w .told) s → (IsGone w s → ⊥) → (one two : ℤ)
-      → answerOf (K .readKey (pos s) one two) w ≡ answer.seen (T .shown s (place one two))
-  pub sums-gone : {s : ℕ} → Committed (w .told) s → IsGone w s → (one : ℤ) → answerOf (K .rollUp (pos s) one) w ≡ answer.rolled (rolled.Refused 4)
-  pub sums-shown : {s : ℕ} → Committed (w .told) s → (IsGone w s → ⊥) → (one : ℤ)
-      → answerOf (K .rollUp (pos s) one) w ≡ answer.rolled (sums (tally one (map (T .shown s) (upTo m))))
+  pub key-gone : {s : ℕ} → Committed (w .told) s → IsGone w s → (key1 key2 : ℤ) → answerOf (K .readKey (pos s) key1 key2) w ≡ answer.seen (seen.Refused 4)
+  pub key-shown : {s : ℕ} → Committed (w .told) s → (IsGone w s → ⊥) → (key1 key2 : ℤ)
+      → answerOf (K .readKey (pos s) key1 key2) w ≡ answer.seen (T .shown s (place key1 key2))
+  pub sums-gone : {s : ℕ} → Committed (w .told) s → IsGone w s → (key1 : ℤ) → answerOf (K .rollUp (pos s) key1) w ≡ answer.rolled (rolled.Refused 4)
+  pub sums-shown : {s : ℕ} → Committed (w .told) s → (IsGone w s → ⊥) → (key1 : ℤ)
+      → answerOf (K .rollUp (pos s) key1) w ≡ answer.rolled (sums (tally key1 (map (T .shown s) (upTo m))))
   pub slot-gone : {s : ℕ} → Committed (w .told) s → IsGone w s → (k : ℕ) → answerOf (K .readSlot (pos s) k) w ≡ answer.seen (seen.Refused 4)
   pub slot-past : {s : ℕ} → Committed (w .told) s → (IsGone w s → ⊥) → (k : ℕ) → m ≤ k → answerOf (K .readSlot (pos s) k) w ≡ answer.seen (seen.Refused 5)
   pub slot-shown : {s : ℕ} → Committed (w .told) s → (IsGone w s → ⊥) → (k : ℕ) → k < m
@@ -45,12 +45,12 @@ pub record Reads {K : Kind} (T : View) (place : ℤ → ℤ → ℕ) (m : ℕ) (
 
 -- ---- what changes of a world answer: 8 with no run; in a run 13, and else by whether the key's place shows a row at the run's number
 abbrev pub liveAt : {K : Kind} → View → (ℤ → ℤ → ℕ) → World K → ℤ → ℤ → Bool
-liveAt T place w one two = shows (T .shown (suc (current (w .told))) (place one two))
+liveAt T place w key1 key2 = shows (T .shown (suc (current (w .told))) (place key1 key2))
 
-pub record Idle {K : Kind} (w : World K) (one two : ℤ) : Type 0 where
-  pub insert : (a b : ℤ) → answerOf (K .insert one two a b) w ≡ answer.placed (placed.Refused 8)
-  pub update : (a b : ℤ) → answerOf (K .update one two a b) w ≡ answer.placed (placed.Refused 8)
-  pub delete : answerOf (K .delete one two) w ≡ answer.placed (placed.Refused 8)
+pub record Idle {K : Kind} (w : World K) (key1 key2 : ℤ) : Type 0 where
+  pub insert : (total1 total2 : ℤ) → answerOf (K .insert key1 key2 total1 total2) w ≡ answer.placed (placed.Refused 8)
+  pub update : (total1 total2 : ℤ) → answerOf (K .update key1 key2 total1 total2) w ≡ answer.placed (placed.Refused 8)
+  pub delete : answerOf (K .delete key1 key2) w ≡ answer.placed (placed.Refused 8)
 
 -- a slot may be taken exactly when no open version and not the run shows a row of it
 pub record Rooms {K : Kind} (T : View) (m : ℕ) (w : World K) (free : ℕ → Bool) : Type 0 where
@@ -59,18 +59,18 @@ pub record Rooms {K : Kind} (T : View) (m : ℕ) (w : World K) (free : ℕ → B
   pub visible : (j : ℕ) → j < m → free j ≡ false
       → (shows (T .shown (suc (current (w .told))) j) ≡ true) ⊎ ((s : ℕ) × Committed (w .told) s × (IsGone w s → ⊥) × (shows (T .shown s j) ≡ true))
 
-pub record InRun {K : Kind} (T : View) (place : ℤ → ℤ → ℕ) (m : ℕ) (w : World K) (free : ℕ → Bool) (one two : ℤ) : Type 0 where
-  pub insert-unlawful : (a b : ℤ) → unlawful a b ≡ true → answerOf (K .insert one two a b) w ≡ answer.placed (placed.Refused 13)
-  pub update-unlawful : (a b : ℤ) → unlawful a b ≡ true → answerOf (K .update one two a b) w ≡ answer.placed (placed.Refused 13)
-  pub insert-live : (a b : ℤ) → unlawful a b ≡ false → liveAt T place w one two ≡ true → answerOf (K .insert one two a b) w ≡ answer.placed (placed.Refused 10)
-  pub insert-full : (a b : ℤ) → unlawful a b ≡ false → liveAt T place w one two ≡ false → NoRoom T m free one two
-      → answerOf (K .insert one two a b) w ≡ answer.placed (placed.Refused 12)
-  pub insert-room : (a b : ℤ) → unlawful a b ≡ false → liveAt T place w one two ≡ false → (NoRoom T m free one two → ⊥)
-      → accepted (answerOf (K .insert one two a b) w) ≡ true
-  pub update-live : (a b : ℤ) → unlawful a b ≡ false → liveAt T place w one two ≡ true → accepted (answerOf (K .update one two a b) w) ≡ true
-  pub update-absent : (a b : ℤ) → unlawful a b ≡ false → liveAt T place w one two ≡ false → answerOf (K .update one two a b) w ≡ answer.placed (placed.Refused 11)
-  pub delete-live : liveAt T place w one two ≡ true → accepted (answerOf (K .delete one two) w) ≡ true
-  pub delete-absent : liveAt T place w one two ≡ false → answerOf (K .delete one two) w ≡ answer.placed (placed.Refused 11)
+pub record InRun {K : Kind} (T : View) (place : ℤ → ℤ → ℕ) (m : ℕ) (w : World K) (free : ℕ → Bool) (key1 key2 : ℤ) : Type 0 where
+  pub insert-unlawful : (total1 total2 : ℤ) → unlawful total1 total2 ≡ true → answerOf (K .insert key1 key2 total1 total2) w ≡ answer.placed (placed.Refused 13)
+  pub update-unlawful : (total1 total2 : ℤ) → unlawful total1 total2 ≡ true → answerOf (K .update key1 key2 total1 total2) w ≡ answer.placed (placed.Refused 13)
+  pub insert-live : (total1 total2 : ℤ) → unlawful total1 total2 ≡ false → liveAt T place w key1 key2 ≡ true → answerOf (K .insert key1 key2 total1 total2) w ≡ answer.placed (placed.Refused 10)
+  pub insert-full : (total1 total2 : ℤ) → unlawful total1 total2 ≡ false → liveAt T place w key1 key2 ≡ false → NoRoom T m free key1 key2
+      → answerOf (K .insert key1 key2 total1 total2) w ≡ answer.placed (placed.Refused 12)
+  pub insert-room : (total1 total2 : ℤ) → unlawful total1 total2 ≡ false → liveAt T place w key1 key2 ≡ false → (NoRoom T m free key1 key2 → ⊥)
+      → accepted (answerOf (K .insert key1 key2 total1 total2) w) ≡ true
+  pub update-live : (total1 total2 : ℤ) → unlawful total1 total2 ≡ false → liveAt T place w key1 key2 ≡ true → accepted (answerOf (K .update key1 key2 total1 total2) w) ≡ true
+  pub update-absent : (total1 total2 : ℤ) → unlawful total1 total2 ≡ false → liveAt T place w key1 key2 ≡ false → answerOf (K .update key1 key2 total1 total2) w ≡ answer.placed (placed.Refused 11)
+  pub delete-live : liveAt T place w key1 key2 ≡ true → accepted (answerOf (K .delete key1 key2) w) ≡ true
+  pub delete-absent : liveAt T place w key1 key2 ≡ false → answerOf (K .delete key1 key2) w ≡ answer.placed (placed.Refused 11)
 
 pub record Argument (K : Kind) : Type 1 where
   pub Sound : ℕ → World K → Type 0
@@ -83,12 +83,12 @@ pub record Argument (K : Kind) : Type 1 where
   -- what calls answer: the place of a key, and whether a slot may be taken
   pub place : World K → ℤ → ℤ → ℕ
   pub free : World K → ℕ → Bool
-  pub placed : (m : ℕ) (w : World K) → Stands Sound view m w → (one two : ℤ) → Place (view w) m one two (place w one two)
+  pub placed : (m : ℕ) (w : World K) → Stands Sound view m w → (key1 key2 : ℤ) → Place (view w) m key1 key2 (place w key1 key2)
   pub runs : (m : ℕ) (w : World K) → Stands Sound view m w → Runs w
   pub reads : (m : ℕ) (w : World K) → Stands Sound view m w → Reads (view w) (place w) m w
-  pub idle : (m : ℕ) (w : World K) → Stands Sound view m w → w .told .active ≡ false → (one two : ℤ) → Idle w one two
+  pub idle : (m : ℕ) (w : World K) → Stands Sound view m w → w .told .active ≡ false → (key1 key2 : ℤ) → Idle w key1 key2
   pub rooms : (m : ℕ) (w : World K) → Stands Sound view m w → w .told .active ≡ true → Rooms (view w) m w (free w)
-  pub in-run : (m : ℕ) (w : World K) → Stands Sound view m w → w .told .active ≡ true → (one two : ℤ) → InRun (view w) (place w) m w (free w) one two
+  pub in-run : (m : ℕ) (w : World K) → Stands Sound view m w → w .told .active ≡ true → (key1 key2 : ℤ) → InRun (view w) (place w) m w (free w) key1 key2
 
 module _ {K : Kind} (A : Argument K) where
   abbrev pub Well : ℕ → World K → Type 0

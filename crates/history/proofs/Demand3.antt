@@ -7,11 +7,11 @@ use mathlib.Core.List.{List, Permᴰ·refl}
 use Prim.Native.Nat.{ℕ, _≤_}
 use native.Mathlib.Omega.{arith}
 use lib.IntN.{ℤ, pos}
-use Rattle.version.specs.declared.Version.{Version}
-use Rattle.version.specs.Record.{badRecord}
+use Rattle.versions.specs.declared.VersionRecord.{VersionRecord}
+use Rattle.versions.specs.Record.{badRecord}
 use Rattle.table.specs.Slots.{slots}
 use Rattle.table.specs.SlotLaws.{lengths}
-use Rattle.searches.specs.Keys.{keySlot}
+use Rattle.table_searches.specs.Keys.{keySlot}
 use Rattle.changes.specs.Whole.{Whole, KeysApart}
 use Rattle.calls.specs.Calls.{Call}
 use Rattle.history.specs.Followed.{starting}
@@ -26,9 +26,9 @@ use Rattle.history.proofs.Argument.{Argument, after-step}
 use Rattle.history.proofs.Promises.{from, demanded}
 use Rattle.history.proofs.Table.{viewOf, fresh-table, fresh-inv, key-place}
 use Rattle.history.proofs.Steps.{TableWorld, SoundWorld, worldView, next-step}
-use Rattle.history.proofs.Runs.{runs}
-use Rattle.history.proofs.Answers.{reads}
-use Rattle.history.proofs.Changing.{freeAt, idle, rooms, in-run}
+use Rattle.history.proofs.RunAnswers.{runs}
+use Rattle.history.proofs.ReadAnswers.{reads}
+use Rattle.history.proofs.ChangeAnswers.{freeAt, idle, rooms, in-run}
 
 abbrev pub two-versions : Argument twoVersions
 two-versions = record {
@@ -55,9 +55,9 @@ demand3 = record {
 }
 
 -- ---- a start with rows
-module _ (m c : ℕ) (t : List ℤ) (v : Version) (b : List ℕ) where
+module _ (m c : ℕ) (t : List ℤ) (v : VersionRecord) (b : List ℕ) where
   abbrev pub wholeWorld : TableWorld
-  wholeWorld = record { state = record { words = t; version = v; block = b }; told = starting c (rowsAt (viewOf t) c m) }
+  wholeWorld = record { state = record { words = t; versions = v; block = b }; told = starting c (rowsAt (viewOf t) c m) }
 
   pub from-whole : slots t ≡ m → Whole t v → KeysApart t → badRecord v ≡ false → v .active ≡ false → v .current ≡ pos c → 1 ≤ c
       → (h : List Call) → NoLoad {K = twoVersions} h wholeWorld → Kept {K = twoVersions} m (after {K = twoVersions} h wholeWorld)

@@ -18,7 +18,7 @@ use Rattle.calls.specs.Seen.{Seen}
 use Rattle.calls.specs.Seen as seen
 use Rattle.history.specs.Databases.{Database, holds, beside, together, allTogether, rowsOf, upTo}
 use Rattle.history.specs.Followed.{Followed, current, databaseAt, running, Committed, Gone, isOpen, openOf, openVersions}
-use Rattle.history.proofs.Databases.{and-both, holds-perm, beside-perm, shows}
+use Rattle.history.proofs.DatabaseLaws.{and-both, holds-perm, beside-perm, shows}
 use Rattle.history.proofs.Rows.{rowsFor, front, rows-lack, rows-hold}
 use Rattle.history.proofs.Views.{View, Distinct, Owned, by-row, lacks, holds-own, held-here}
 use Rattle.history.proofs.Invariant.{Inv}

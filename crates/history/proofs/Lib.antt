@@ -1,9 +1,9 @@
-pub mod Databases
+pub mod DatabaseLaws
 pub mod Rows
 pub mod Views
 pub mod Growth
 pub mod Invariant
-pub mod Written
+pub mod SlotWritten
 pub mod Turns
 pub mod Reading
 pub mod Fullness
@@ -13,7 +13,7 @@ pub mod Promises
 pub mod Recorded
 pub mod Table
 pub mod Steps
-pub mod Answers
-pub mod Changing
-pub mod Runs
+pub mod ReadAnswers
+pub mod ChangeAnswers
+pub mod RunAnswers
 pub mod Demand3

@@ -10,7 +10,7 @@ use Rattle.laws.specs.Tests.{by-test}
 use Rattle.history.specs.Databases.{Database, isKey, holds, NoRepeat, without, Change, gives, takesOut, changed, madeBy}
 use Rattle.history.specs.Followed.{Followed, current, afterRuns, databaseAt, running, Heard, wentIn, beganRun, committedRun, loadedBlock, withChanges, withChange, hear}
 use Rattle.history.specs.Kinds.{Kind, World, heardOf, next, after}
-use Rattle.history.proofs.Databases.{neither}
+use Rattle.history.proofs.DatabaseLaws.{neither}
 
 -- ---- what is left without a key
 lacks-it : (p q : ℤ) (d : Database) → holds p q (without p q d) ≡ false

@@ -12,9 +12,9 @@ use Rattle.calls.specs.Calls as answer
 use Rattle.history.specs.Databases.{holds, NoRepeat, madeBy, rolledUp}
 use Rattle.history.specs.Followed.{freshStart, current, databaseAt, running, Committed, openVersions, hear}
 use Rattle.history.specs.Kinds.{Kind, accepted, World, freshWorld, next, after, NoLoad}
-use Rattle.history.specs.Sessions.{Turn, mine, other, callsOf, slotsAsked, answersGot, NoneRefused, rowsGot}
+use Rattle.history.specs.SessionTurns.{Turn, mine, other, callsOf, slotsAsked, answersGot, NoneRefused, rowsGot}
 use Rattle.history.specs.Demand.{IsGone, Shows, answered, KeyReads, RollUps, SlotReads, Sessions, IsFull, Fullness, Changes, Incident, Databases, Kept, Demanded}
-use Rattle.history.proofs.Databases.{shows, rolled-perm}
+use Rattle.history.proofs.DatabaseLaws.{shows, rolled-perm}
 use Rattle.history.proofs.Growth.{grown, current-committed, run-made, running-with, last-database}
 use Rattle.history.proofs.Reading.{key-row, slot-row, region-sums, key-live, Readings, none, moved, read, session-rows}
 use Rattle.history.proofs.Fullness.{anyShown, open-versions, taken-open, NoRoom, full-room, room-full}
@@ -24,19 +24,19 @@ use Rattle.history.proofs.Once.{database-once, running-once, opening-af
 module _ {K : Kind} (A : Argument K) where
   module _ (m : ℕ) (w : World K) (i : Well A m w) where
     key-reads : KeyReads w
-    key-reads s c one two =
+    key-reads s c key1 key2 =
         let r = A .reads m w i in
         record {
-          gone = λ h. r .key-gone c h one two;
-          kept = λ still. r .key-shown c still one two ∙ ap answer.seen (key-row (i .inv) c still (A .placed m w i one two));
+          gone = λ h. r .key-gone c h key1 key2;
+          kept = λ still. r .key-shown c still key1 key2 ∙ ap answer.seen (key-row (i .inv) c still (A .placed m w i key1 key2));
         }
 
     roll-ups : RollUps w
-    roll-ups s c one =
+    roll-ups s c key1 =
         let r = A .reads m w i in
         record {
-          gone = λ h. r .sums-gone c h one;
-          kept = λ still. r .sums-shown c still one ∙ ap answer.rolled (region-sums (i .inv) c still one);
+          gone = λ h. r .sums-gone c h key1;
+          kept = λ still. r .sums-shown c still key1 ∙ ap answer.rolled (region-sums (i .inv) c still key1);
         }
 
     slot-reads : SlotReads m w
@@ -76,42 +76,42 @@ module _ {K : Kind} (A : Argument K) where
 
   -- ---- changes: a key is live exactly when the running database holds it, and there is no room exactly when the table is full
   module _ (m : ℕ) (w : World K) (i : Well A m w) (a : w .told .active ≡ true) where
-    live-held : (one two : ℤ) → liveAt (A .view w) (A .place w) w one two ≡ holds one two (running (w .told))
-    live-held one two = key-live (i .inv) a (A .placed m w i one two)
+    live-held : (key1 key2 : ℤ) → liveAt (A .view w) (A .place w) w key1 key2 ≡ holds key1 key2 (running (w .told))
+    live-held key1 key2 = key-live (i .inv) a (A .placed m w i key1 key2)
 
     taken : (j : ℕ) → j < m → shows (anyShown (A .view w) (openVersions (K .keeps) (w .told)) (suc (current (w .told))) j) ≡ not (A .free w j)
     taken j l =
         let r = A .rooms m w i a in
         taken-open (A .view w) (K .keeps) (w .told) (suc (current (w .told))) j (A .free w j) (r .unseen-run j l) (r .unseen j l) (r .visible j l)
 
-    full-none : (one two : ℤ) → IsFull m w one two → NoRoom (A .view w) m (A .free w) one two
+    full-none : (key1 key2 : ℤ) → IsFull m w key1 key2 → NoRoom (A .view w) m (A .free w) key1 key2
     full-none = full-room (i .inv) a (openVersions (K .keeps) (w .told)) (open-versions (K .keeps) (w .told)) (A .free w) taken
 
-    none-full : (one two : ℤ) → NoRoom (A .view w) m (A .free w) one two → IsFull m w one two
+    none-full : (key1 key2 : ℤ) → NoRoom (A .view w) m (A .free w) key1 key2 → IsFull m w key1 key2
     none-full = room-full (i .inv) a (openVersions (K .keeps) (w .told)) (open-versions (K .keeps) (w .told)) (A .free w) taken
 
   module _ (m : ℕ) (w : World K) (i : Well A m w) where
     fullness : Fullness m w
-    fullness a one two x y lawful absent =
-        let r = A .in-run m w i a one two in
-        let dead = live-held m w i a one two ∙ absent in
+    fullness a key1 key2 x y lawful absent =
+        let r = A .in-run m w i a key1 key2 in
+        let dead = live-held m w i a key1 key2 ∙ absent in
         record {
-          full = λ f. r .insert-full x y lawful dead (full-none m w i a one two f);
-          room = λ room. r .insert-room x y lawful dead (λ none. room (none-full m w i a one two none));
+          full = λ f. r .insert-full x y lawful dead (full-none m w i a key1 key2 f);
+          room = λ room. r .insert-room x y lawful dead (λ none. room (none-full m w i a key1 key2 none));
         }
 
-    changes : (one two : ℤ) → Changes w one two
-    changes one two = record {
-      insert-idle = λ idle. A .idle m w i idle one two .insert;
-      update-idle = λ idle. A .idle m w i idle one two .update;
-      delete-idle = λ idle. A .idle m w i idle one two .delete;
-      insert-unlawful = λ a. A .in-run m w i a one two .insert-unlawful;
-      update-unlawful = λ a. A .in-run m w i a one two .update-unlawful;
-      insert-live = λ a x y lawful held. A .in-run m w i a one two .insert-live x y lawful (live-held m w i a one two ∙ held);
-      update-live = λ a x y lawful held. A .in-run m w i a one two .update-live x y lawful (live-held m w i a one two ∙ held);
-      update-absent = λ a x y lawful held. A .in-run m w i a one two .update-absent x y lawful (live-held m w i a one two ∙ held);
-      delete-live = λ a held. A .in-run m w i a one two .delete-live (live-held m w i a one two ∙ held);
-      delete-absent = λ a held. A .in-run m w i a one two .delete-absent (live-held m w i a one two ∙ held);
+    changes : (key1 key2 : ℤ) → Changes w key1 key2
+    changes key1 key2 = record {
+      insert-idle = λ idle. A .idle m w i idle key1 key2 .insert;
+      update-idle = λ idle. A .idle m w i idle key1 key2 .update;
+      delete-idle = λ idle. A .idle m w i idle key1 key2 .delete;
+      insert-unlawful = λ a. A .in-run m w i a key1 key2 .insert-unlawful;
+      update-unlawful = λ a. A .in-run m w i a key1 key2 .update-unlawful;
+      insert-live = λ a x y lawful held. A .in-run m w i a key1 key2 .insert-live x y lawful (live-held m w i a key1 key2 ∙ held);
+      update-live = λ a x y lawful held. A .in-run m w i a key1 key2 .update-live x y lawful (live-held m w i a key1 key2 ∙ held);
+      update-absent = λ a x y lawful held. A .in-run m w i a key1 key2 .update-absent x y lawful (live-held m w i a key1 key2 ∙ held);
+      delete-live = λ a held. A .in-run m w i a key1 key2 .delete-live (live-held m w i a key1 key2 ∙ held);
+      delete-absent = λ a held. A .in-run m w i a key1 key2 .delete-absent (live-held m w i a key1 key2 ∙ held);
     }
 
     sessions : Sessions m w

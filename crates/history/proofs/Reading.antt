@@ -14,7 +14,7 @@ use Rattle.laws.specs.Repeats.{perm-length}
 use Rattle.calls.specs.Terms.{tally, sums}
 use Rattle.history.specs.Databases.{Database, holds, found, IsOf, rolledUp, rowsOf, upTo}
 use Rattle.history.specs.Followed.{Followed, current, databaseAt, running, Committed, Gone}
-use Rattle.history.proofs.Databases.{holds-perm, found-perm, rolled-perm, tally-region, shows, held-found}
+use Rattle.history.proofs.DatabaseLaws.{holds-perm, found-perm, rolled-perm, tally-region, shows, held-found}
 use Rattle.history.proofs.Rows.{rowsFor, rows-perm}
 use Rattle.history.proofs.Views.{View, rowsAt, Place, by-row, rows-norepeat, found-here, found-place, tally-rows}
 use Rattle.history.proofs.Invariant.{Inv, Step, same-step, then}
@@ -34,9 +34,9 @@ module _ {n m : ℕ} {T : View} {g : Followed} (i : Inv n m T g) where
         by-row (λ r. T .shown s k ≡ r → IsOf (databaseAt g s) r) (T .shown s k) (T .owned s k)
         (λ p q a b h e. sym (found-rows p q) ∙ found-here (i .distinct) (T .shown s) (T .owned s) k m p q l h ∙ e) (λ e. tt) refl
 
-    pub region-sums : (one : ℤ) → sums (tally one (map (T .shown s) (upTo m))) ≡ rolledUp one (databaseAt g s)
-    region-sums one =
-        ap sums (tally-rows (i .distinct) (T .shown s) (T .owned s) one m) ∙ tally-region one (rowsAt T s m) ∙ rolled-perm one ∣ i .rows s c kept ∣₁
+    pub region-sums : (key1 : ℤ) → sums (tally key1 (map (T .shown s) (upTo m))) ≡ rolledUp key1 (databaseAt g s)
+    region-sums key1 =
+        ap sums (tally-rows (i .distinct) (T .shown s) (T .owned s) key1 m) ∙ tally-region key1 (rowsAt T s m) ∙ rolled-perm key1 ∣ i .rows s c kept ∣₁
 
   -- in a run a key is in the running database exactly when its place shows a row at the run's number
   pub key-live : g .active ≡ true → {p q : ℤ} {k : ℕ} → Place T m p q k → shows (T .shown (suc (current g)) k) ≡ holds p q (running g)

@@ -9,17 +9,17 @@ use native.Mathlib.Omega.{arith}
 use lib.Dec.{leb}
 use lib.IntN.{pos, _+ℤ_}
 use borrow.Author.Tests.{le-leb, lt-leb}
-use Rattle.version.specs.declared.Version.{Version}
-use Rattle.version.specs.Record.{badRecord, runNumber}
-use Rattle.version.specs.Sessions.{unborn, expired}
-use Rattle.version.specs.SessionLaws.{born, expires}
-use Rattle.version.specs.Runs.{beginRefusal, begunFrom, commitRefusal, committedFrom}
-use Rattle.version.specs.RunLaws.{can-commit, begun-sound, committed-sound}
+use Rattle.versions.specs.declared.VersionRecord.{VersionRecord}
+use Rattle.versions.specs.Record.{badRecord, runNumber}
+use Rattle.versions.specs.Sessions.{unborn, expired}
+use Rattle.versions.specs.SessionLaws.{born, expires}
+use Rattle.versions.specs.Runs.{beginRefusal, begunFrom, commitRefusal, committedFrom}
+use Rattle.versions.specs.RunLaws.{can-commit, begun-sound, committed-sound}
 use Rattle.history.specs.Databases.{Database, Change}
 use Rattle.history.specs.Followed.{Followed, starting, current, Committed, Gone, withChange, runBegun, runCommitted}
 use Rattle.history.proofs.Growth.{counted}
 
-pub record Recorded (v : Version) (g : Followed) : Type 0 where
+pub record Recorded (v : VersionRecord) (g : Followed) : Type 0 where
   pub known : badRecord v ≡ false
   pub origin : 1 ≤ g .origin
   pub version : v .current ≡ pos (current g)
@@ -27,12 +27,12 @@ pub record Recorded (v : Version) (g : Followed) : Type 0 where
   pub expiry : (s : ℕ) → Committed g s → expired v (pos s) ≡ leb (s + 2) (g .begun)
 
 -- a start: no run is active, and none after it has begun
-pub start-recorded : {v : Version} (c : ℕ) (d : Database) → badRecord v ≡ false → v .active ≡ false → v .current ≡ pos c → 1 ≤ c → Recorded v (starting c d)
+pub start-recorded : {v : VersionRecord} (c : ℕ) (d : Database) → badRecord v ≡ false → v .active ≡ false → v .current ≡ pos c → 1 ≤ c → Recorded v (starting c d)
 start-recorded {v} c d known idle version low =
     let at : v .current ≡ pos (current (starting c d)) = version ∙ ap pos (omega arith) in
     record { known = known; origin = low; version = at; active = idle; expiry = λ s h. expires v c s version low ∙ rw idle }
 
-module _ {v : Version} {g : Followed} (x : Recorded v g) where
+module _ {v : VersionRecord} {g : Followed} (x : Recorded v g) where
   pub run-is : pos (suc (current g)) ≡ runNumber v
   run-is = ap pos (sym (add-one (current g))) ∙ ap (λ z. z +ℤ pos 1) (sym (x .version))
 

@@ -14,7 +14,7 @@ use Rattle.laws.specs.Repeats.{by-perm}
 use Rattle.calls.specs.Seen.{Seen}
 use Rattle.calls.specs.Seen as seen
 use Rattle.history.specs.Databases.{Database, holds, rowsOf, upTo}
-use Rattle.history.proofs.Databases.{holds-append, holds-perm}
+use Rattle.history.proofs.DatabaseLaws.{holds-append, holds-perm}
 
 -- the rows of slots in an order
 abbrev pub rowsFor : (ℕ → Seen) → List ℕ → Database

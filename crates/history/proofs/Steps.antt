@@ -8,13 +8,13 @@ use Prim.Native.Nat.{ℕ, zero, suc}
 use lib.Dec.{eqb·suc-zero}
 use lib.IntN.{ℤ}
 use Rattle.laws.specs.Tests.{clash}
-use Rattle.version.specs.declared.Version.{Version}
-use Rattle.version.specs.declared.Numbered.{Numbered}
-use Rattle.version.specs.RunLaws.{Refuses, Accepts, begin-refuses, begin-accepts, commit-refuses, commit-accepts}
-use Rattle.version.specs.Runs.{beginRefusal, commitRefusal}
+use Rattle.versions.specs.declared.VersionRecord.{VersionRecord}
+use Rattle.versions.specs.declared.Numbered.{Numbered}
+use Rattle.versions.specs.RunLaws.{TurnRefuses, TurnAccepts, begin-refuses, begin-accepts, commit-refuses, commit-accepts}
+use Rattle.versions.specs.Runs.{beginRefusal, commitRefusal}
 use Rattle.reads.specs.declared.Seen.{Seen}
 use Rattle.changes.specs.declared.Placed.{Placed}
-use Rattle.changes.specs.Accepted.{Came, refuses, accepts, insert-came, update-came, delete-came}
+use Rattle.changes.specs.ChangesAccepted.{Came, refuses, accepts, insert-came, update-came, delete-came}
 use Rattle.blocks.specs.ContractLaws as load
 use Rattle.blocks.specs.LoadBlock.{loadBlockRefusal}
 use Rattle.calls.specs.Calls.{Call, openSession, begin, commit, readSlot, readKey, rollUp, insert, update, delete, saveHeader, saveBlock, loadHeader, loadBlock}
@@ -26,7 +26,7 @@ use Rattle.history.specs.Kinds.{World, heardOf, next, isLoad}
 use Rattle.history.specs.TwoVersions.{heardChanges, ifAccepted, twoVersions}
 use Rattle.history.proofs.Views.{View}
 use Rattle.history.proofs.Invariant.{Step, same-step}
-use Rattle.history.proofs.Written.{written-step}
+use Rattle.history.proofs.SlotWritten.{written-step}
 use Rattle.history.proofs.Turns.{begin-step, commit-step}
 use Rattle.history.proofs.Recorded.{commit-runs}
 use Rattle.history.proofs.Table.{viewOf, Sound, change-written, change-sound, same-above, begin-sound, commit-sound}
@@ -37,7 +37,7 @@ TableWorld = World twoVersions
 
 -- the table and its record are sound, and its view is that of its words
 abbrev pub SoundWorld : ℕ → TableWorld → Type 0
-SoundWorld m w = Sound m (w .state .words) (w .state .version) (w .told)
+SoundWorld m w = Sound m (w .state .words) (w .state .versions) (w .told)
 
 abbrev pub worldView : TableWorld → View
 worldView w = viewOf (w .state .words)
@@ -50,12 +50,12 @@ Goes m w w′ = Went SoundWorld worldView m w w′
 
 module _ (m : ℕ) (w : TableWorld) (i : Well m w) where
   -- a call that leaves words, record and what is followed
-  quiet : (w′ : TableWorld) → w′ .state .words ≡ w .state .words → w′ .state .version ≡ w .state .version → w′ .told ≡ w .told → Goes m w w′
+  quiet : (w′ : TableWorld) → w′ .state .words ≡ w .state .words → w′ .state .versions ≡ w .state .versions → w′ .told ≡ w .told → Goes m w w′
   quiet w′ a b c = record { sound = rw (a, b, c) (i .sound); step = rw (a, c) (same-step (i .inv)) }
 
   -- begin or commit, by its refusal
-  turn : (x : Heard) (r : Numbered) (v′ later : Version) (refusal : ℕ) → ((n : ℕ) → refusal ≡ suc n → Refuses (suc n) (w .state .version) r v′)
-      → (refusal ≡ 0 → Accepts (w .state .version) r v′ later) → (refusal ≡ 0 → Sound m (w .state .words) later (hear x (w .told)))
+  turn : (x : Heard) (r : Numbered) (v′ later : VersionRecord) (refusal : ℕ) → ((n : ℕ) → refusal ≡ suc n → TurnRefuses (suc n) (w .state .versions) r v′)
+      → (refusal ≡ 0 → TurnAccepts (w .state .versions) r v′ later) → (refusal ≡ 0 → Sound m (w .state .words) later (hear x (w .told)))
       → (refusal ≡ 0 → Step 2 m (worldView w) (w .told) (worldView w) (hear x (w .told)))
       → Goes m w (record { state = withVersion (w .state) v′; told = hear (ifAccepted (answer.numbered r) x) (w .told) })
   turn x r v′ later zero refuse accept sound step =
@@ -66,12 +66,12 @@ module _ (m : ℕ) (w : TableWorld) (i : Well m w) where
       quiet _ refl (no-turn .record-kept) (rw (no-turn .answer, eqb·suc-zero n) refl)
 
   -- a change, by what came of it; an accepted one makes of the running database what its effect says
-  change : (c : Change) (one two : ℤ) (after : Seen) (r : Placed) (t′ : List ℤ)
-      → changed c (running (w .told)) ≡ rowsOf after ++ without one two (running (w .told))
-      → Came (w .state .words) (w .state .version) one two after r t′
+  change : (c : Change) (key1 key2 : ℤ) (after : Seen) (r : Placed) (t′ : List ℤ)
+      → changed c (running (w .told)) ≡ rowsOf after ++ without key1 key2 (running (w .told))
+      → Came (w .state .words) (w .state .versions) key1 key2 after r t′
       → Goes m w (record { state = withWords (w .state) t′; told = hear (heardChanges (answer.placed r) (c ∷ [])) (w .told) })
-  change c one two after r t′ e (refuses n x) = quiet _ (x .words) refl (rw (x .answer, eqb·suc-zero n) refl)
-  change c one two after r t′ e (accepts k x wrote) =
+  change c key1 key2 after r t′ e (refuses n x) = quiet _ (x .words) refl (rw (x .answer, eqb·suc-zero n) refl)
+  change c key1 key2 after r t′ e (accepts k x wrote) =
       let a = sym (i .sound .recorded .active) ∙ x .active in
       rw (x .answer)
       (record {
@@ -80,7 +80,7 @@ module _ (m : ℕ) (w : TableWorld) (i : Well m w) where
       })
 
   -- a load of a block that is refused
-  load-refused : (k : ℕ) (b : List ℕ) (n : ℕ) → loadBlockRefusal (w .state .words) (w .state .version) k b ≡ n
+  load-refused : (k : ℕ) (b : List ℕ) (n : ℕ) → loadBlockRefusal (w .state .words) (w .state .versions) k b ≡ n
       → isLoad (heardOf {K = twoVersions} (loadBlock k b) w) ≡ false → Goes m w (next {K = twoVersions} (loadBlock k b) w)
   load-refused k b zero e no-load = clash (ap (λ r. isLoad (ifAccepted (answer.loaded r) loadedBlock)) (load.load-accepts _ _ k b e)) no-load
   load-refused k b (suc n) e no-load =
@@ -97,12 +97,12 @@ module _ (m : ℕ) (w : TableWorld) (i : Well m w) where
       turn _ _ _ _ (commitRefusal _) (commit-refuses _) (commit-accepts _) (commit-sound (i .sound) (i .inv))
       (λ h. commit-step (i .inv) (commit-runs (i .sound .recorded) h))
   next-step (readSlot s k) no-load = quiet _ refl refl refl
-  next-step (readKey s one two) no-load = quiet _ refl refl refl
-  next-step (rollUp s one) no-load = quiet _ refl refl refl
-  next-step (insert one two a b) no-load = change _ one two _ _ _ refl (insert-came _ _ one two a b (i .sound .whole) (i .inv .distinct .slot))
-  next-step (update one two a b) no-load = change _ one two _ _ _ refl (update-came _ _ one two a b (i .sound .whole) (i .inv .distinct .slot))
-  next-step (delete one two) no-load = change _ one two _ _ _ refl (delete-came _ _ one two (i .sound .whole) (i .inv .distinct .slot))
+  next-step (readKey s key1 key2) no-load = quiet _ refl refl refl
+  next-step (rollUp s key1) no-load = quiet _ refl refl refl
+  next-step (insert key1 key2 total1 total2) no-load = change _ key1 key2 _ _ _ refl (insert-came _ _ key1 key2 total1 total2 (i .sound .whole) (i .inv .distinct .slot))
+  next-step (update key1 key2 total1 total2) no-load = change _ key1 key2 _ _ _ refl (update-came _ _ key1 key2 total1 total2 (i .sound .whole) (i .inv .distinct .slot))
+  next-step (delete key1 key2) no-load = change _ key1 key2 _ _ _ refl (delete-came _ _ key1 key2 (i .sound .whole) (i .inv .distinct .slot))
   next-step saveHeader no-load = quiet _ refl refl refl
   next-step (saveBlock k) no-load = quiet _ refl refl refl
-  next-step (loadHeader b) no-load = quiet _ refl refl refl
-  next-step (loadBlock k b) no-load = load-refused k b _ refl no-load
+  next-step (loadHeader total2) no-load = quiet _ refl refl refl
+  next-step (loadBlock k total2) no-load = load-refused k total2 _ refl no-load

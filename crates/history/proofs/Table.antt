@@ -14,16 +14,16 @@ use lib.Signed.{leZ}
 use borrow.Author.Tests.{ltb-true, ltb-false, le-leb}
 use Rattle.laws.specs.Tests.{by-test, clash}
 use Rattle.laws.specs.Order.{leZ-refl, leZ-trans, from-to}
-use Rattle.version.specs.declared.Version.{Version}
-use Rattle.version.specs.Record.{freshRecord, runNumber, lastRun}
-use Rattle.version.specs.RecordLaws.{fresh-sound}
-use Rattle.version.specs.Runs.{beginRefusal, begunFrom, commitRefusal, committedFrom}
-use Rattle.version.specs.RunLaws.{can-begin, can-commit}
+use Rattle.versions.specs.declared.VersionRecord.{VersionRecord}
+use Rattle.versions.specs.Record.{freshRecord, runNumber, lastRun}
+use Rattle.versions.specs.RecordLaws.{fresh-sound}
+use Rattle.versions.specs.Runs.{beginRefusal, begunFrom, commitRefusal, committedFrom}
+use Rattle.versions.specs.RunLaws.{can-begin, can-commit}
 use Rattle.table.specs.Slots.{slots, slotAt, freshTable}
 use Rattle.table.specs.SlotLaws.{put-length, fresh-slots, fresh-shape, fresh-slot}
 use Rattle.table.specs.FormedLaws.{formed-cases, formed-later, empty-formed}
-use Rattle.searches.specs.Keys.{hasKey, keySlot}
-use Rattle.searches.specs.KeyLaws.{has-key, keyed-has, keySlot-is, empty-keyless, absent-empty, absent-nowhere}
+use Rattle.table_searches.specs.Keys.{hasKey, keySlot}
+use Rattle.table_searches.specs.KeyLaws.{has-key, keyed-has, keySlot-is, empty-keyless, absent-empty, absent-nowhere}
 use Rattle.reads.specs.declared.Seen.{Seen}
 use Rattle.reads.specs.Table1.{shown}
 use Rattle.reads.specs.Table1Laws.{shown-empty}
@@ -34,7 +34,7 @@ use Rattle.history.specs.Followed.{Followed, freshStart, current, withCh
 use Rattle.history.specs.Kinds.{Size}
 use Rattle.history.proofs.Views.{View, Owned, Place, here, nowhere, rowsAt}
 use Rattle.history.proofs.Invariant.{Inv, start-inv}
-use Rattle.history.proofs.Written.{Written}
+use Rattle.history.proofs.SlotWritten.{Written}
 use Rattle.history.proofs.Recorded.{Recorded, start-recorded, run-is, change-recorded, begin-recorded, commit-runs, commit-recorded}
 
 abbrev pub viewOf : List ℤ → View
@@ -46,7 +46,7 @@ viewOf t = record {
 }
 
 -- ---- what the table and its record keep
-pub record Sound (m : ℕ) (t : List ℤ) (v : Version) (g : Followed) : Type 0 where
+pub record Sound (m : ℕ) (t : List ℤ) (v : VersionRecord) (g : Followed) : Type 0 where
   pub size : slots t ≡ m
   pub whole : Whole t v
   pub recorded : Recorded v g
@@ -67,27 +67,27 @@ fresh-table m size = record {
 }
 
 pub fresh-inv : (m : ℕ) → Inv 2 m (viewOf (freshTable m)) freshStart
-fresh-inv m = start-inv 1 [] (omega arith) (record { slot = λ i j one two hi hj. clash hi (rw (fresh-slot m i) (empty-keyless one two)) }) (rw (fresh-rows m m 1) L.List·Permᴰ·nil)
+fresh-inv m = start-inv 1 [] (omega arith) (record { slot = λ i j key1 key2 hi hj. clash hi (rw (fresh-slot m i) (empty-keyless key1 key2)) }) (rw (fresh-rows m m 1) L.List·Permᴰ·nil)
 
-module _ {m : ℕ} {t : List ℤ} {v : Version} {g : Followed} (x : Sound m t v g) where
+module _ {m : ℕ} {t : List ℤ} {v : VersionRecord} {g : Followed} (x : Sound m t v g) where
   -- the key search finds a key's place
-  pub key-place : (one two : ℤ) → Place (viewOf t) m one two (keySlot t one two)
-  key-place one two =
-      by-test (ltb (keySlot t one two) (slots t))
-      (λ y. let l = ltb-true _ _ y in here (rw (x .size) at l) (keySlot-is t one two .passes l))
+  pub key-place : (key1 key2 : ℤ) → Place (viewOf t) m key1 key2 (keySlot t key1 key2)
+  key-place key1 key2 =
+      by-test (ltb (keySlot t key1 key2) (slots t))
+      (λ y. let l = ltb-true _ _ y in here (rw (x .size) at l) (keySlot-is t key1 key2 .passes l))
       (λ n. let past = ltb-false _ _ n in
-      nowhere (absent-nowhere t one two (x .whole .shape) past) (λ s. rw (absent-empty t one two (x .whole .shape) past) (shown-empty (pos s))))
+      nowhere (absent-nowhere t key1 key2 (x .whole .shape) past) (λ s. rw (absent-empty t key1 key2 (x .whole .shape) past) (shown-empty (pos s))))
 
   -- ---- a change in a run, in which the one open version is current
-  module _ (i : Inv 2 m (viewOf t) g) (a : g .active ≡ true) {one two : ℤ} {after : Seen} {k : ℕ} {t′ : List ℤ} (w : Wrote t v one two after k t′) where
+  module _ (i : Inv 2 m (viewOf t) g) (a : g .active ≡ true) {key1 key2 : ℤ} {after : Seen} {k : ℕ} {t′ : List ℤ} (w : Wrote t v key1 key2 after k t′) where
     written : slotAt t′ k ≡ w .slot
-    written = written-slot t v one two after k t′ (x .whole) w
+    written = written-slot t v key1 key2 after k t′ (x .whole) w
 
-    pub change-written : Written 2 m (viewOf t) g one two after k (viewOf t′)
+    pub change-written : Written 2 m (viewOf t) g key1 key2 after k (viewOf t′)
     change-written = record {
       place = rw (x .size) at (w .place);
-      others = λ j ne s. rw (other-slot t v one two after k t′ (x .whole) w j ne);
-      other-keys = λ j ne p q. rw (other-slot t v one two after k t′ (x .whole) w j ne);
+      others = λ j ne s. rw (other-slot t v key1 key2 after k t′ (x .whole) w j ne);
+      other-keys = λ j ne p q. rw (other-slot t v key1 key2 after k t′ (x .whole) w j ne);
       alone = w .alone;
       stays = λ s c still. let e : s ≡ current g = omega (arith, i .in-run a) in rw (written, e, ← x .recorded .version) (w .effect .low);
       before = rw (run-is (x .recorded)) (w .effect .before);
@@ -99,12 +99,12 @@ module _ {m : ℕ} {t : List ℤ} {v : Version} {g : Followed} (x : Sound m t v 
     pub change-sound : (c : Change) → Sound m t′ v (withChange c g)
     change-sound c = record {
       size = rw (w .words, put-length t k (w .slot)) (x .size);
-      whole = whole-after t v one two after k t′ (x .whole) w;
+      whole = whole-after t v key1 key2 after k t′ (x .whole) w;
       recorded = change-recorded (x .recorded) c;
     }
 
   -- ---- begin and commit write no slot, and the last run is no earlier after them
-  later-whole : {v′ : Version} → leZ (lastRun v) (lastRun v′) ≡ true → Whole t v′
+  later-whole : {v′ : VersionRecord} → leZ (lastRun v) (lastRun v′) ≡ true → Whole t v′
   later-whole {v′} l = record { shape = x .whole .shape; formed = λ k. formed-later (slotAt t k) v v′ l (x .whole .formed k) }
 
   module _ (h : beginRefusal v ≡ 0) where

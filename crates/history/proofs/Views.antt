@@ -14,7 +14,7 @@ use Rattle.calls.specs.Seen.{Seen}
 use Rattle.calls.specs.Seen as seen
 use Rattle.calls.specs.Terms.{tally}
 use Rattle.history.specs.Databases.{Database, row, isKey, holds, NoRepeat, found, asSeen, rowsOf, upTo}
-use Rattle.history.proofs.Databases.{key-of, is-key, found-absent, found-perm, shows, held-found}
+use Rattle.history.proofs.DatabaseLaws.{key-of, is-key, found-absent, found-perm, shows, held-found}
 use Rattle.history.proofs.Rows.{rowsFor, hiding, focus, rows-lack}
 
 -- no row, or a row of a key that the slot has
@@ -100,11 +100,11 @@ module _ {T : View} (distinct : Distinct T) (f : ℕ → Seen) (owned : (k : ℕ
   held-here k m p q l h = held-found p q (rowsFor f (upTo m)) ∙ ap shows (found-here k m p q l h)
 
   -- the sums of the rows are those of what the slots show
-  pub tally-rows : (one : ℤ) (m : ℕ) → tally one (map f (upTo m)) ≡ tally one (map asSeen (rowsFor f (upTo m)))
-  tally-rows one zero = refl
-  tally-rows one (suc m) =
-      by-row (λ r. tally one (r ∷ map f (upTo m)) ≡ tally one (map asSeen (rowsOf r ++ rowsFor f (upTo m)))) (f m) (owned m)
-      (λ p q a b y. rw (tally-rows one m)) (tally-rows one m)
+  pub tally-rows : (key1 : ℤ) (m : ℕ) → tally key1 (map f (upTo m)) ≡ tally key1 (map asSeen (rowsFor f (upTo m)))
+  tally-rows key1 zero = refl
+  tally-rows key1 (suc m) =
+      by-row (λ r. tally key1 (r ∷ map f (upTo m)) ≡ tally key1 (map asSeen (rowsOf r ++ rowsFor f (upTo m)))) (f m) (owned m)
+      (λ p q a b y. rw (tally-rows key1 m)) (tally-rows key1 m)
 
 -- what a version shows of the place of a key is the key's row among the rows that it shows
 pub found-place : {T : View} → Distinct T → {m k : ℕ} {p q : ℤ} → Place T m p q k → (s : ℕ) → found p q (rowsAt T s m) ≡ T .shown s k

@@ -23,16 +23,16 @@ abbrev pub Database : Type 0
 Database = List Row
 
 abbrev pub row : ℤ → ℤ → ℤ → ℤ → Row
-row one two a b = record { key1 = one; key2 = two; total1 = a; total2 = b }
+row key1 key2 total1 total2 = record { key1 = key1; key2 = key2; total1 = total1; total2 = total2 }
 
 -- the row has that key
 abbrev pub isKey : ℤ → ℤ → Row → Bool
-isKey one two r = eqZ (r .key1) one && eqZ (r .key2) two
+isKey key1 key2 r = eqZ (r .key1) key1 && eqZ (r .key2) key2
 
 -- some row has it
 abbrev pub holds : ℤ → ℤ → Database → Bool
-holds one two [] = false
-holds one two (r ∷ d) = isKey one two r || holds one two d
+holds key1 key2 [] = false
+holds key1 key2 (r ∷ d) = isKey key1 key2 r || holds key1 key2 d
 
 -- no key twice
 abbrev pub NoRepeat : Database → Type 0
@@ -42,8 +42,8 @@ NoRepeat (r ∷ d) = (holds (r .key1) (r .key2) d ≡ false) × NoRepeat d
 -- ---- changes
 -- the rows of other keys
 abbrev pub without : ℤ → ℤ → Database → Database
-without one two [] = []
-without one two (r ∷ d) = cond (isKey one two r) (without one two d) (r ∷ without one two d)
+without key1 key2 [] = []
+without key1 key2 (r ∷ d) = cond (isKey key1 key2 r) (without key1 key2 d) (r ∷ without key1 key2 d)
 
 -- a key is given two totals, or is taken out
 pub data Change : Type 0 where
@@ -52,8 +52,8 @@ pub data Change : Type 0 where
 
 -- what a change leaves: the row in place of what the key had, or the rows of the other keys
 abbrev pub changed : Change → Database → Database
-changed (gives one two a b) d = row one two a b ∷ without one two d
-changed (takesOut one two) d = without one two d
+changed (gives key1 key2 total1 total2) d = row key1 key2 total1 total2 ∷ without key1 key2 d
+changed (takesOut key1 key2) d = without key1 key2 d
 
 -- what several leave, made one by one
 abbrev pub madeBy : List Change → Database → Database
@@ -66,30 +66,30 @@ asSeen r = seen.Row (r .key1) (r .key2) (r .total1) (r .total2)
 
 -- the row of a key, or no row
 abbrev pub found : ℤ → ℤ → Database → Seen
-found one two [] = seen.NoRow
-found one two (r ∷ d) = cond (isKey one two r) (asSeen r) (found one two d)
+found key1 key2 [] = seen.NoRow
+found key1 key2 (r ∷ d) = cond (isKey key1 key2 r) (asSeen r) (found key1 key2 d)
 
 -- no row, or the row that the database has of its key
 abbrev pub IsOf : Database → Seen → Type 0
-IsOf d (seen.Row one two a b) = found one two d ≡ seen.Row one two a b
+IsOf d (seen.Row key1 key2 total1 total2) = found key1 key2 d ≡ seen.Row key1 key2 total1 total2
 IsOf d seen.NoRow = Unit {0}
 IsOf d (seen.Refused n) = ⊥
 
 -- ---- the roll-up of a region: how many rows have the first key word, and the sum of each total over them
 abbrev pub region : ℤ → Database → Database
-region one [] = []
-region one (r ∷ d) = cond (eqZ (r .key1) one) (r ∷ region one d) (region one d)
+region key1 [] = []
+region key1 (r ∷ d) = cond (eqZ (r .key1) key1) (r ∷ region key1 d) (region key1 d)
 
 abbrev pub sumOf : (Row → ℤ) → Database → ℤ
 sumOf total [] = pos 0
 sumOf total (r ∷ d) = total r +ℤ sumOf total d
 
 abbrev pub rolledUp : ℤ → Database → Rolled
-rolledUp one d = rolled.Sums (length (region one d)) (sumOf (λ r. r .total1) (region one d)) (sumOf (λ r. r .total2) (region one d))
+rolledUp key1 d = rolled.Sums (length (region key1 d)) (sumOf (λ r. r .total1) (region key1 d)) (sumOf (λ r. r .total2) (region key1 d))
 
 -- ---- the rows of what a read answers, and the numbers of slots
 abbrev pub rowsOf : Seen → Database
-rowsOf (seen.Row one two a b) = row one two a b ∷ []
+rowsOf (seen.Row key1 key2 total1 total2) = row key1 key2 total1 total2 ∷ []
 rowsOf seen.NoRow = []
 rowsOf (seen.Refused n) = []
 

@@ -18,7 +18,7 @@ use Rattle.calls.specs.Calls as answer
 use Rattle.history.specs.Databases.{Database, holds, NoRepeat, Change, madeBy, found, IsOf, rolledUp, upTo, allTogether}
 use Rattle.history.specs.Followed.{current, changesOf, databaseAt, running, Committed, Gone, openVersions, wentIn, beganRun, committedRun}
 use Rattle.history.specs.Kinds.{Kind, accepted, Size, World, freshWorld, answerOf, heardOf, next, after, NoLoad}
-use Rattle.history.specs.Sessions.{Turn, callsOf, slotsAsked, answersGot, NoneRefused, rowsGot}
+use Rattle.history.specs.SessionTurns.{Turn, callsOf, slotsAsked, answersGot, NoneRefused, rowsGot}
 
 -- the version is gone
 abbrev pub IsGone : {K : Kind} → World K → ℕ → Type 0
@@ -37,26 +37,26 @@ module _ {K : Kind} where
   -- ---- runs: open answers the current version; begin is accepted exactly with no run active and a version left, commit exactly
   -- in a run, and both answer the next version
   pub record Runs (w : World K) : Type 0 where
-    pub opened : answerOf (K .openSession) w ≡ answer.numbered (numbered.Number (pos (current (w .told))))
-    pub begun : w .told .active ≡ false → current (w .told) < 1000000000 → answerOf (K .begin) w ≡ answer.numbered (numbered.Number (pos (suc (current (w .told)))))
+    pub opened : answerOf (K .openSession) w ≡ answer.numbered (numbered.Version (pos (current (w .told))))
+    pub begun : w .told .active ≡ false → current (w .told) < 1000000000 → answerOf (K .begin) w ≡ answer.numbered (numbered.Version (pos (suc (current (w .told)))))
     pub begun-already : w .told .active ≡ true → answerOf (K .begin) w ≡ answer.numbered (numbered.Refused 7)
     pub no-version-left : w .told .active ≡ false → 1000000000 ≤ current (w .told) → answerOf (K .begin) w ≡ answer.numbered (numbered.Refused 9)
-    pub committed : w .told .active ≡ true → answerOf (K .commit) w ≡ answer.numbered (numbered.Number (pos (suc (current (w .told)))))
+    pub committed : w .told .active ≡ true → answerOf (K .commit) w ≡ answer.numbered (numbered.Version (pos (suc (current (w .told)))))
     pub no-run : w .told .active ≡ false → answerOf (K .commit) w ≡ answer.numbered (numbered.Refused 8)
 
   -- ---- a read of a key, and a roll-up, at a committed version s answers from database s, and is refused as expired exactly when
   -- that version is gone
   abbrev pub KeyRead : World K → ℕ → ℤ → ℤ → Type 0
-  KeyRead w s one two = Until w s (answerOf (K .readKey (pos s) one two) w) (answer.seen (seen.Refused 4)) (answer.seen (found one two (databaseAt (w .told) s)))
+  KeyRead w s key1 key2 = Until w s (answerOf (K .readKey (pos s) key1 key2) w) (answer.seen (seen.Refused 4)) (answer.seen (found key1 key2 (databaseAt (w .told) s)))
 
   abbrev pub KeyReads : World K → Type 0
-  KeyReads w = (s : ℕ) → Committed (w .told) s → (one two : ℤ) → KeyRead w s one two
+  KeyReads w = (s : ℕ) → Committed (w .told) s → (key1 key2 : ℤ) → KeyRead w s key1 key2
 
   abbrev pub RegionRead : World K → ℕ → ℤ → Type 0
-  RegionRead w s one = Until w s (answerOf (K .rollUp (pos s) one) w) (answer.rolled (rolled.Refused 4)) (answer.rolled (rolledUp one (databaseAt (w .told) s)))
+  RegionRead w s key1 = Until w s (answerOf (K .rollUp (pos s) key1) w) (answer.rolled (rolled.Refused 4)) (answer.rolled (rolledUp key1 (databaseAt (w .told) s)))
 
   abbrev pub RollUps : World K → Type 0
-  RollUps w = (s : ℕ) → Committed (w .told) s → (one : ℤ) → RegionRead w s one
+  RollUps w = (s : ℕ) → Committed (w .told) s → (key1 : ℤ) → RegionRead w s key1
 
   -- ---- a read of a slot is refused as expired exactly then, or by 5 past the last slot; else it answers no row, or a row of
   -- database s; and it answers the same as long as the version is not gone, whatever is called between
@@ -85,31 +85,31 @@ module _ {K : Kind} where
   heldInRun w = allTogether (map (databaseAt (w .told)) (openVersions (K .keeps) (w .told))) (running (w .told))
 
   abbrev pub IsFull : ℕ → World K → ℤ → ℤ → Type 0
-  IsFull m w one two = (length (heldInRun w) ≡ m) × (holds one two (heldInRun w) ≡ false)
+  IsFull m w key1 key2 = (length (heldInRun w) ≡ m) × (holds key1 key2 (heldInRun w) ≡ false)
 
-  pub record Full (m : ℕ) (w : World K) (one two a b : ℤ) : Type 0 where
-    pub full : IsFull m w one two → answerOf (K .insert one two a b) w ≡ answer.placed (placed.Refused 12)
-    pub room : (IsFull m w one two → ⊥) → accepted (answerOf (K .insert one two a b) w) ≡ true
+  pub record Full (m : ℕ) (w : World K) (key1 key2 total1 total2 : ℤ) : Type 0 where
+    pub full : IsFull m w key1 key2 → answerOf (K .insert key1 key2 total1 total2) w ≡ answer.placed (placed.Refused 12)
+    pub room : (IsFull m w key1 key2 → ⊥) → accepted (answerOf (K .insert key1 key2 total1 total2) w) ≡ true
 
   abbrev pub Fullness : ℕ → World K → Type 0
-  Fullness m w = w .told .active ≡ true → (one two a b : ℤ) → unlawful a b ≡ false → holds one two (running (w .told)) ≡ false → Full m w one two a b
+  Fullness m w = w .told .active ≡ true → (key1 key2 total1 total2 : ℤ) → unlawful total1 total2 ≡ false → holds key1 key2 (running (w .told)) ≡ false → Full m w key1 key2 total1 total2
 
   -- ---- changes: with no run active every one is refused 8; during a run totals that are not lawful are refused 13, an update or
   -- a delete is accepted exactly when its key is in the running database, and else refused 11, and an insert of such a key is refused 10
-  pub record Changes (w : World K) (one two : ℤ) : Type 0 where
-    pub insert-idle : w .told .active ≡ false → (a b : ℤ) → answerOf (K .insert one two a b) w ≡ answer.placed (placed.Refused 8)
-    pub update-idle : w .told .active ≡ false → (a b : ℤ) → answerOf (K .update one two a b) w ≡ answer.placed (placed.Refused 8)
-    pub delete-idle : w .told .active ≡ false → answerOf (K .delete one two) w ≡ answer.placed (placed.Refused 8)
-    pub insert-unlawful : w .told .active ≡ true → (a b : ℤ) → unlawful a b ≡ true → answerOf (K .insert one two a b) w ≡ answer.placed (placed.Refused 13)
-    pub update-unlawful : w .told .active ≡ true → (a b : ℤ) → unlawful a b ≡ true → answerOf (K .update one two a b) w ≡ answer.placed (placed.Refused 13)
-    pub insert-live : w .told .active ≡ true → (a b : ℤ) → unlawful a b ≡ false → holds one two (running (w .told)) ≡ true
-        → answerOf (K .insert one two a b) w ≡ answer.placed (placed.Refused 10)
-    pub update-live : w .told .active ≡ true → (a b : ℤ) → unlawful a b ≡ false → holds one two (running (w .told)) ≡ true
-        → accepted (answerOf (K .update one two a b) w) ≡ true
-    pub update-absent : w .told .active ≡ true → (a b : ℤ) → unlawful a b ≡ false → holds one two (running (w .told)) ≡ false
-        → answerOf (K .update one two a b) w ≡ answer.placed (placed.Refused 11)
-    pub delete-live : w .told .active ≡ true → holds one two (running (w .told)) ≡ true → accepted (answerOf (K .delete one two) w) ≡ true
-    pub delete-absent : w .told .active ≡ true → holds one two (running (w .told)) ≡ false → answerOf (K .delete one two) w ≡ answer.placed (placed.Refused 11)
+  pub record Changes (w : World K) (key1 key2 : ℤ) : Type 0 where
+    pub insert-idle : w .told .active ≡ false → (total1 total2 : ℤ) → answerOf (K .insert key1 key2 total1 total2) w ≡ answer.placed (placed.Refused 8)
+    pub update-idle : w .told .active ≡ false → (total1 total2 : ℤ) → answerOf (K .update key1 key2 total1 total2) w ≡ answer.placed (placed.Refused 8)
+    pub delete-idle : w .told .active ≡ false → answerOf (K .delete key1 key2) w ≡ answer.placed (placed.Refused 8)
+    pub insert-unlawful : w .told .active ≡ true → (total1 total2 : ℤ) → unlawful total1 total2 ≡ true → answerOf (K .insert key1 key2 total1 total2) w ≡ answer.placed (placed.Refused 13)
+    pub update-unlawful : w .told .active ≡ true → (total1 total2 : ℤ) → unlawful total1 total2 ≡ true → answerOf (K .update key1 key2 total1 total2) w ≡ answer.placed (placed.Refused 13)
+    pub insert-live : w .told .active ≡ true → (total1 total2 : ℤ) → unlawful total1 total2 ≡ false → holds key1 key2 (running (w .told)) ≡ true
+        → answerOf (K .insert key1 key2 total1 total2) w ≡ answer.placed (placed.Refused 10)
+    pub update-live : w .told .active ≡ true → (total1 total2 : ℤ) → unlawful total1 total2 ≡ false → holds key1 key2 (running (w .told)) ≡ true
+        → accepted (answerOf (K .update key1 key2 total1 total2) w) ≡ true
+    pub update-absent : w .told .active ≡ true → (total1 total2 : ℤ) → unlawful total1 total2 ≡ false → holds key1 key2 (running (w .told)) ≡ false
+        → answerOf (K .update key1 key2 total1 total2) w ≡ answer.placed (placed.Refused 11)
+    pub delete-live : w .told .active ≡ true → holds key1 key2 (running (w .told)) ≡ true → accepted (answerOf (K .delete key1 key2) w) ≡ true
+    pub delete-absent : w .told .active ≡ true → holds key1 key2 (running (w .told)) ≡ false → answerOf (K .delete key1 key2) w ≡ answer.placed (placed.Refused 11)
 
   -- ---- the incident: a region is a first key, its stores the rows that have it. Wherever session s is not refused, the roll-up
   -- of the region is the count and the sums of its stores as the session read them, slot by slot, at any places of the history
@@ -139,7 +139,7 @@ module _ {K : Kind} where
     pub slotReads : SlotReads m w
     pub sessions : Sessions m w
     pub fullness : Fullness m w
-    pub changes : (one two : ℤ) → Changes w one two
+    pub changes : (key1 key2 : ℤ) → Changes w key1 key2
     pub incident : Incident m w
     pub databases : Databases w
 

@@ -1,6 +1,6 @@
 pub mod Databases
 pub mod Followed
 pub mod Kinds
-pub mod Sessions
+pub mod SessionTurns
 pub mod Demand
 pub mod TwoVersions

@@ -25,11 +25,11 @@ heardFrom openSession a = nothing
 heardFrom begin a = ifAccepted a beganRun
 heardFrom commit a = ifAccepted a committedRun
 heardFrom (readSlot s k) a = nothing
-heardFrom (readKey s one two) a = nothing
-heardFrom (rollUp s one) a = nothing
-heardFrom (insert one two x y) a = heardChanges a (gives one two x y ∷ [])
-heardFrom (update one two x y) a = heardChanges a (gives one two x y ∷ [])
-heardFrom (delete one two) a = heardChanges a (takesOut one two ∷ [])
+heardFrom (readKey s key1 key2) a = nothing
+heardFrom (rollUp s key1) a = nothing
+heardFrom (insert key1 key2 x y) a = heardChanges a (gives key1 key2 x y ∷ [])
+heardFrom (update key1 key2 x y) a = heardChanges a (gives key1 key2 x y ∷ [])
+heardFrom (delete key1 key2) a = heardChanges a (takesOut key1 key2 ∷ [])
 heardFrom saveHeader a = nothing
 heardFrom (saveBlock k) a = nothing
 heardFrom (loadHeader b) a = nothing
@@ -37,7 +37,7 @@ heardFrom (loadBlock k b) a = ifAccepted a loadedBlock
 
 -- a fresh table of m slots and a fresh record
 abbrev pub freshState : ℕ → State
-freshState m = record { words = freshTable m; version = freshRecord; block = [] }
+freshState m = record { words = freshTable m; versions = freshRecord; block = [] }
 
 abbrev pub twoVersions : Kind
 twoVersions = record {

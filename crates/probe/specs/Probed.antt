@@ -6,7 +6,7 @@ use lib.IntN.{ℤ, pos}
 use lib.ListN.{length, getD, replicate}
 use lib.Seq.{sets}
 use Rattle.laws.specs.Order.{eqZ}
-use Rattle.version.specs.declared.Version.{Version}
+use Rattle.versions.specs.declared.VersionRecord.{VersionRecord}
 use Rattle.calls.specs.Calls.{Call}
 use Rattle.calls.specs.Numbers.{numbers}
 use Rattle.calls.specs.Perform.{State, perform}
@@ -26,7 +26,7 @@ marked r = eqZ (markWord r) (pos 0) || eqZ (markWord r) (pos 1)
 abbrev pub outOfRange : ℤ
 outOfRange = pos 0
 
-unfoldable pub versionOf : List ℤ → Version
+unfoldable pub versionOf : List ℤ → VersionRecord
 versionOf r =
     cond (marked r)
     (record { current = currentWord r; active = eqZ (markWord r) (pos 1) })
@@ -36,7 +36,7 @@ abbrev pub markOf : Bool → ℤ
 markOf active = cond active (pos 1) (pos 0)
 
 -- the record once a call has left this version: its first two words are; a record with another mark stays as it is
-unfoldable pub recordWith : List ℤ → Version → List ℤ
+unfoldable pub recordWith : List ℤ → VersionRecord → List ℤ
 recordWith r v = cond (marked r) (sets r 0 (v .current ∷ markOf (v .active) ∷ [])) r
 
 -- ---- out: the refusal's number or 0, then the answer's numbers in order, zeros elsewhere
@@ -48,7 +48,7 @@ padded ns = ns ++ replicate (outWords - length ns) (pos 0)
 
 -- ---- what a call leaves of the lent things: the table's words, the record's and the block
 abbrev pub lent : List ℤ → List ℤ → List ℕ → State
-lent t r b = record { words = t; version = versionOf r; block = b }
+lent t r b = record { words = t; versions = versionOf r; block = b }
 
 unfoldable pub outAfter : Call → State → List ℤ
 outAfter call st = padded (numbers (perform call st .answer))
@@ -57,7 +57,7 @@ unfoldable pub tableAfter : Call → State → List ℤ
 tableAfter call st = perform call st .state .words
 
 unfoldable pub recordAfter : Call → List ℤ → State → List ℤ
-recordAfter call r st = recordWith r (perform call st .state .version)
+recordAfter call r st = recordWith r (perform call st .state .versions)
 
 unfoldable pub blockAfter : Call → State → List ℕ
 blockAfter call st = perform call st .state .block

@@ -6,8 +6,8 @@ ghost use mathlib.Core.List.{[]};
 ghost use Rattle.calls.specs.Calls.{openSession, begin, commit, readSlot, readKey, rollUp, insert, update, delete, saveHeader, saveBlock, loadHeader, loadBlock};
 ghost use Rattle.probe.specs.Probed.{lent, outAfter, tableAfter, recordAfter, blockAfter};
 
-mod answers;
 mod lent;
+mod numbers;
 mod records;
 
 // open: current
@@ -15,7 +15,7 @@ mod records;
 pub extern "C" fn probe_open(record_words: &[i64; 4], out: &mut [i64; 8])
     ensures { λ _. ⌜ now (out .exit) ≡ outAfter openSession (lent [] (now (record_words .entry)) []) ⌝ }
 {
-    answers::put_numbered(out, reader::open(records::version_of(record_words)));
+    numbers::put_numbered(out, reader::open(records::version_of(record_words)));
 }
 
 // begin: the run's number
@@ -24,10 +24,10 @@ pub extern "C" fn probe_begin(record_words: &mut [i64; 4], out: &mut [i64; 8])
     ensures { λ _. ⌜ now (out .exit) ≡ outAfter begin (lent [] (now (record_words .entry)) []) ⌝ }
     ensures { λ _. ⌜ now (record_words .exit) ≡ recordAfter begin (now (record_words .entry)) (lent [] (now (record_words .entry)) []) ⌝ }
 {
-    let turned = lent::begun(records::version_of(record_words));
+    let turned = lent::begin_by_value(records::version_of(record_words));
     let answer = turned.answer;
-    records::keep(record_words, turned.version);
-    answers::put_numbered(out, answer);
+    records::keep_record(record_words, turned.versions);
+    numbers::put_numbered(out, answer);
 }
 
 // commit: the new current
@@ -36,10 +36,10 @@ pub extern "C" fn probe_commit(record_words: &mut [i64; 4], out: &mut [i64; 8])
     ensures { λ _. ⌜ now (out .exit) ≡ outAfter commit (lent [] (now (record_words .entry)) []) ⌝ }
     ensures { λ _. ⌜ now (record_words .exit) ≡ recordAfter commit (now (record_words .entry)) (lent [] (now (record_words .entry)) []) ⌝ }
 {
-    let turned = lent::committed(records::version_of(record_words));
+    let turned = lent::commit_by_value(records::version_of(record_words));
     let answer = turned.answer;
-    records::keep(record_words, turned.version);
-    answers::put_numbered(out, answer);
+    records::keep_record(record_words, turned.versions);
+    numbers::put_numbered(out, answer);
 }
 
 // read a slot: mark 1 and the row, or zeros
@@ -53,7 +53,7 @@ pub extern "C" fn probe_read_slot(
 )
     ensures { λ _. ⌜ now (out .exit) ≡ outAfter (readSlot session slot) (lent (now (table .entry)) (now (record_words .entry)) []) ⌝ }
 {
-    answers::put_seen(
+    numbers::put_seen(
         out,
         reader::read_slot(table, records::version_of(record_words), session, slot),
     );
@@ -65,15 +65,21 @@ pub extern "C" fn probe_read_key(
     table: &[i64],
     record_words: &[i64; 4],
     session: i64,
-    one: i64,
-    two: i64,
+    key1: i64,
+    key2: i64,
     out: &mut [i64; 8],
 )
-    ensures { λ _. ⌜ now (out .exit) ≡ outAfter (readKey session one two) (lent (now (table .entry)) (now (record_words .entry)) []) ⌝ }
+    ensures { λ _. ⌜ now (out .exit) ≡ outAfter (readKey session key1 key2) (lent (now (table .entry)) (now (record_words .entry)) []) ⌝ }
 {
-    answers::put_seen(
+    numbers::put_seen(
         out,
-        reader::read_key(table, records::version_of(record_words), session, one, two),
+        reader::read_key(
+            table,
+            records::version_of(record_words),
+            session,
+            key1,
+            key2,
+        ),
     );
 }
 
@@ -83,14 +89,14 @@ pub extern "C" fn probe_roll_up(
     table: &[i64],
     record_words: &[i64; 4],
     session: i64,
-    one: i64,
+    key1: i64,
     out: &mut [i64; 8],
 )
-    ensures { λ _. ⌜ now (out .exit) ≡ outAfter (rollUp session one) (lent (now (table .entry)) (now (record_words .entry)) []) ⌝ }
+    ensures { λ _. ⌜ now (out .exit) ≡ outAfter (rollUp session key1) (lent (now (table .entry)) (now (record_words .entry)) []) ⌝ }
 {
-    answers::put_rolled(
+    numbers::put_rolled(
         out,
-        reader::roll_up(table, records::version_of(record_words), session, one),
+        reader::roll_up(table, records::version_of(record_words), session, key1),
     );
 }
 
@@ -99,24 +105,24 @@ pub extern "C" fn probe_roll_up(
 pub extern "C" fn probe_insert(
     table: &mut [i64],
     record_words: &[i64; 4],
-    one: i64,
-    two: i64,
-    first: i64,
-    second: i64,
+    key1: i64,
+    key2: i64,
+    total1: i64,
+    total2: i64,
     out: &mut [i64; 8],
 )
-    ensures { λ _. ⌜ now (out .exit) ≡ outAfter (insert one two first second) (lent (now (table .entry)) (now (record_words .entry)) []) ⌝ }
-    ensures { λ _. ⌜ now (table .exit) ≡ tableAfter (insert one two first second) (lent (now (table .entry)) (now (record_words .entry)) []) ⌝ }
+    ensures { λ _. ⌜ now (out .exit) ≡ outAfter (insert key1 key2 total1 total2) (lent (now (table .entry)) (now (record_words .entry)) []) ⌝ }
+    ensures { λ _. ⌜ now (table .exit) ≡ tableAfter (insert key1 key2 total1 total2) (lent (now (table .entry)) (now (record_words .entry)) []) ⌝ }
 {
-    answers::put_placed(
+    numbers::put_placed(
         out,
         reader::insert(
             table,
             records::version_of(record_words),
-            one,
-            two,
-            first,
-            second,
+            key1,
+            key2,
+            total1,
+            total2,
         ),
     );
 }
@@ -126,24 +132,24 @@ pub extern "C" fn probe_insert(
 pub extern "C" fn probe_update(
     table: &mut [i64],
     record_words: &[i64; 4],
-    one: i64,
-    two: i64,
-    first: i64,
-    second: i64,
+    key1: i64,
+    key2: i64,
+    total1: i64,
+    total2: i64,
     out: &mut [i64; 8],
 )
-    ensures { λ _. ⌜ now (out .exit) ≡ outAfter (update one two first second) (lent (now (table .entry)) (now (record_words .entry)) []) ⌝ }
-    ensures { λ _. ⌜ now (table .exit) ≡ tableAfter (update one two first second) (lent (now (table .entry)) (now (record_words .entry)) []) ⌝ }
+    ensures { λ _. ⌜ now (out .exit) ≡ outAfter (update key1 key2 total1 total2) (lent (now (table .entry)) (now (record_words .entry)) []) ⌝ }
+    ensures { λ _. ⌜ now (table .exit) ≡ tableAfter (update key1 key2 total1 total2) (lent (now (table .entry)) (now (record_words .entry)) []) ⌝ }
 {
-    answers::put_placed(
+    numbers::put_placed(
         out,
         reader::update(
             table,
             records::version_of(record_words),
-            one,
-            two,
-            first,
-            second,
+            key1,
+            key2,
+            total1,
+            total2,
         ),
     );
 }
@@ -153,16 +159,16 @@ pub extern "C" fn probe_update(
 pub extern "C" fn probe_delete(
     table: &mut [i64],
     record_words: &[i64; 4],
-    one: i64,
-    two: i64,
+    key1: i64,
+    key2: i64,
     out: &mut [i64; 8],
 )
-    ensures { λ _. ⌜ now (out .exit) ≡ outAfter (delete one two) (lent (now (table .entry)) (now (record_words .entry)) []) ⌝ }
-    ensures { λ _. ⌜ now (table .exit) ≡ tableAfter (delete one two) (lent (now (table .entry)) (now (record_words .entry)) []) ⌝ }
+    ensures { λ _. ⌜ now (out .exit) ≡ outAfter (delete key1 key2) (lent (now (table .entry)) (now (record_words .entry)) []) ⌝ }
+    ensures { λ _. ⌜ now (table .exit) ≡ tableAfter (delete key1 key2) (lent (now (table .entry)) (now (record_words .entry)) []) ⌝ }
 {
-    answers::put_placed(
+    numbers::put_placed(
         out,
-        reader::delete(table, records::version_of(record_words), one, two),
+        reader::delete(table, records::version_of(record_words), key1, key2),
     );
 }
 
@@ -180,7 +186,7 @@ pub extern "C" fn probe_save_header(
     let saved = reader::save_header(table, records::version_of(record_words));
     let bytes = saved.block;
     *block = bytes;
-    answers::put_refusal(out, saved.refusal);
+    numbers::put_refusal(out, saved.refusal);
 }
 
 // save block: block k from 1
@@ -198,7 +204,7 @@ pub extern "C" fn probe_save_block(
     let saved = reader::save_block(table, records::version_of(record_words), number);
     let bytes = saved.block;
     *block = bytes;
-    answers::put_refusal(out, saved.refusal);
+    numbers::put_refusal(out, saved.refusal);
 }
 
 // load header: slots, current
@@ -206,7 +212,7 @@ pub extern "C" fn probe_save_block(
 pub extern "C" fn probe_load_header(block: &[u8], out: &mut [i64; 8])
     ensures { λ _. ⌜ now (out .exit) ≡ outAfter (loadHeader (now (block .entry))) (lent [] [] []) ⌝ }
 {
-    answers::put_header(out, reader::load_header(block));
+    numbers::put_header(out, reader::load_header(block));
 }
 
 // load block: its slots
@@ -221,7 +227,7 @@ pub extern "C" fn probe_load_block(
     ensures { λ _. ⌜ now (out .exit) ≡ outAfter (loadBlock number (now (block .entry))) (lent (now (table .entry)) (now (record_words .entry)) []) ⌝ }
     ensures { λ _. ⌜ now (table .exit) ≡ tableAfter (loadBlock number (now (block .entry))) (lent (now (table .entry)) (now (record_words .entry)) []) ⌝ }
 {
-    answers::put_loaded(
+    numbers::put_loaded(
         out,
         reader::load_block(table, records::version_of(record_words), number, block),
     );

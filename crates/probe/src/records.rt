@@ -1,7 +1,7 @@
 // The record as four words: current, the run mark, and two that stay as they are.
 ghost use mathlib.Core.Path.{_≡_};
 ghost use Rattle.probe.specs.Probed.{marked, versionOf, markOf, recordWith};
-use reader::Version;
+use reader::VersionRecord;
 
 const CURRENT_PLACE: usize = 0;
 
@@ -22,16 +22,16 @@ fn is_marked(record_words: &[i64; 4]) -> bool
     (mark == IDLE) | (mark == ACTIVE)
 }
 
-pub fn version_of(record_words: &[i64; 4]) -> Version
+pub fn version_of(record_words: &[i64; 4]) -> VersionRecord
     ensures { λ r. ⌜ r ≡ versionOf (now (record_words .entry)) ⌝ }
 {
     if is_marked(record_words) {
-        return Version {
+        return VersionRecord {
             current: record_words[CURRENT_PLACE],
             active: record_words[MARK_PLACE] == ACTIVE,
         };
     }
-    Version {
+    VersionRecord {
         current: OUT_OF_RANGE,
         active: false,
     }
@@ -44,11 +44,11 @@ fn mark_of(active: bool) -> i64
 }
 
 // The version that a call left, put into the record's words; one with another mark stays as it is.
-pub fn keep(record_words: &mut [i64; 4], version: Version)
-    ensures { λ _. ⌜ now (record_words .exit) ≡ recordWith (now (record_words .entry)) version ⌝ }
+pub fn keep_record(record_words: &mut [i64; 4], versions: VersionRecord)
+    ensures { λ _. ⌜ now (record_words .exit) ≡ recordWith (now (record_words .entry)) versions ⌝ }
 {
-    let current = version.current;
-    let mark = mark_of(version.active);
+    let current = versions.current;
+    let mark = mark_of(versions.active);
     if is_marked(record_words) {
         record_words[CURRENT_PLACE] = current;
         record_words[MARK_PLACE] = mark;

@@ -2,9 +2,9 @@
 // no other of ours; what the other crates have beside these are leaves for our own use.
 
 // The version record, with its largest version `Version::LARGEST` and the fresh record `Version::fresh`.
-pub use version::Version;
+pub use versions::VersionRecord;
 // What open, begin and commit answer: the number of a version, or a refusal.
-pub use version::Numbered;
+pub use versions::Numbered;
 // What a slot or a key read answers: a row, no row, or a refusal.
 pub use reads::Seen;
 // What a roll-up answers: the count and both sums, or a refusal.
@@ -19,15 +19,15 @@ pub use blocks::Header;
 pub use blocks::Loaded;
 
 // Open: the current version.
-pub use version::open;
+pub use versions::open;
 // Begin a run, on a lent record: the run's number.
-pub use version::begin;
+pub use versions::begin;
 // Commit it, on a lent record: the new current version.
-pub use version::commit;
+pub use versions::commit;
 // Begin and commit with the record handed over and back by value, and what they leave: the answer and the record.
-pub use version::Turned;
-pub use version::begun;
-pub use version::committed;
+pub use versions::Turned;
+pub use versions::begin_by_value;
+pub use versions::commit_by_value;
 // Read a slot, at a session's version.
 pub use reads::read_slot;
 // Read a key, at a session's version.

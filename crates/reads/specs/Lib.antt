@@ -5,7 +5,7 @@ pub mod Session
 pub mod ReadSlot
 pub mod ReadKey
 pub mod RollUp
-pub mod Outcomes
+pub mod ReadOutcomes
 pub mod RollUpLaws
 pub mod RowExpiry
 pub mod RowExpiryLaws

@@ -6,9 +6,9 @@ use Prim.Native.Nat.{ℕ}
 use lib.Dec.{ltb}
 use lib.IntN.{ℤ}
 use Rattle.laws.specs.First.{first, unless}
-use Rattle.version.specs.declared.Version.{Version}
-use Rattle.version.specs.Record.{badRecord}
-use Rattle.version.specs.Sessions.{unborn, expired}
+use Rattle.versions.specs.declared.VersionRecord.{VersionRecord}
+use Rattle.versions.specs.Record.{badRecord}
+use Rattle.versions.specs.Sessions.{unborn, expired}
 use Rattle.table.specs.Slots.{badTable, slots, slotAt}
 use Rattle.table.specs.Formed.{broken}
 use Rattle.reads.specs.declared.Seen.{Seen}
@@ -20,7 +20,7 @@ abbrev pub noSuchSlot : List ℤ → ℕ → Bool
 noSuchSlot t k = not (ltb k (slots t))
 
 -- Read a slot: 1, 2, 3, 4, 5, 6
-abbrev pub readSlotTests : List ℤ → Version → ℤ → ℕ → List (Bool × ℕ)
+abbrev pub readSlotTests : List ℤ → VersionRecord → ℤ → ℕ → List (Bool × ℕ)
 readSlotTests t v s k =
     (badTable t, 1)
     ∷ (badRecord v, 2)
@@ -30,16 +30,16 @@ readSlotTests t v s k =
     ∷ (broken (slotAt t k) v, 6)
     ∷ []
 
-unfoldable pub readSlotRefusal : List ℤ → Version → ℤ → ℕ → ℕ
+unfoldable pub readSlotRefusal : List ℤ → VersionRecord → ℤ → ℕ → ℕ
 readSlotRefusal t v s k = first (readSlotTests t v s k)
 
 -- what the session sees of the slot
-unfoldable pub readSlotAnswer : List ℤ → Version → ℤ → ℕ → Seen
+unfoldable pub readSlotAnswer : List ℤ → VersionRecord → ℤ → ℕ → Seen
 readSlotAnswer t v s k = unless (readSlotRefusal t v s k) Refused (shown s (slotAt t k))
 
 -- the contract, and that it allows one outcome
-pub record SlotRead (t : List ℤ) (v : Version) (s : ℤ) (k : ℕ) (r : Seen) : Type 0 where
+pub record ReadSlotContract (t : List ℤ) (v : VersionRecord) (s : ℤ) (k : ℕ) (r : Seen) : Type 0 where
   pub answer : r ≡ readSlotAnswer t v s k
 
-pub one-outcome : {t : List ℤ} {v : Version} {s : ℤ} {k : ℕ} {r r′ : Seen} → SlotRead t v s k r → SlotRead t v s k r′ → r ≡ r′
+pub one-outcome : {t : List ℤ} {v : VersionRecord} {s : ℤ} {k : ℕ} {r r′ : Seen} → ReadSlotContract t v s k r → ReadSlotContract t v s k r′ → r ≡ r′
 one-outcome a b = a .answer ∙ sym (b .answer)

@@ -7,9 +7,9 @@ use Prim.Native.Nat.{ℕ, zero, suc}
 use lib.IntN.{ℤ, pos, _+ℤ_}
 use Rattle.laws.specs.First.{first, unless}
 use Rattle.laws.specs.Order.{eqZ}
-use Rattle.version.specs.declared.Version.{Version}
-use Rattle.version.specs.Record.{badRecord}
-use Rattle.version.specs.Sessions.{unborn, expired}
+use Rattle.versions.specs.declared.VersionRecord.{VersionRecord}
+use Rattle.versions.specs.Record.{badRecord}
+use Rattle.versions.specs.Sessions.{unborn, expired}
 use Rattle.table.specs.Slots.{badTable, slots, slotAt}
 use Rattle.table.specs.Formed.{anyBroken}
 use Rattle.reads.specs.declared.Seen.{Seen}
@@ -24,22 +24,22 @@ abbrev pub Tally : Type 0
 Tally = declared.Tally
 
 abbrev pub nothing : Tally
-nothing = record { count = 0; first = pos 0; second = pos 0 }
+nothing = record { count = 0; total1 = pos 0; total2 = pos 0 }
 
 -- one row more
 abbrev pub counted : ℤ → ℤ → Tally → Tally
-counted a b n = record { count = suc (n .count); first = n .first +ℤ a; second = n .second +ℤ b }
+counted a b n = record { count = suc (n .count); total1 = n .total1 +ℤ a; total2 = n .total2 +ℤ b }
 
 -- a row with that first key word counts, and nothing else does
 abbrev pub tallied : ℤ → Seen → Tally → Tally
-tallied one (Row k1 k2 a b) n = cond (eqZ k1 one) (counted a b n) n
-tallied one NoRow n = n
-tallied one (Refused m) n = n
+tallied key1 (Row k1 k2 a b) n = cond (eqZ k1 key1) (counted a b n) n
+tallied key1 NoRow n = n
+tallied key1 (Refused m) n = n
 
 -- what the rows of a list come to
 abbrev pub tally : ℤ → List Seen → Tally
-tally one [] = nothing
-tally one (x ∷ l) = tallied one x (tally one l)
+tally key1 [] = nothing
+tally key1 (x ∷ l) = tallied key1 x (tally key1 l)
 
 -- what a session sees of the first n slots, the last of them first
 abbrev pub seen : List ℤ → ℤ → ℕ → List Seen
@@ -47,7 +47,7 @@ seen t s zero = []
 seen t s (suc n) = shown s (slotAt t n) ∷ seen t s n
 
 -- Roll-up: 1, 2, 3, 4, 6 (any slot)
-abbrev pub rollUpTests : List ℤ → Version → ℤ → List (Bool × ℕ)
+abbrev pub rollUpTests : List ℤ → VersionRecord → ℤ → List (Bool × ℕ)
 rollUpTests t v s =
     (badTable t, 1)
     ∷ (badRecord v, 2)
@@ -56,19 +56,19 @@ rollUpTests t v s =
     ∷ (anyBroken t v, 6)
     ∷ []
 
-unfoldable pub rollUpRefusal : List ℤ → Version → ℤ → ℕ
+unfoldable pub rollUpRefusal : List ℤ → VersionRecord → ℤ → ℕ
 rollUpRefusal t v s = first (rollUpTests t v s)
 
 -- the count of visible rows with that word and the exact sums of both totals
 abbrev pub sums : Tally → Rolled
-sums n = rolled.Sums (n .count) (n .first) (n .second)
+sums n = rolled.Sums (n .count) (n .total1) (n .total2)
 
-unfoldable pub rollUpAnswer : List ℤ → Version → ℤ → ℤ → Rolled
-rollUpAnswer t v s one = unless (rollUpRefusal t v s) rolled.Refused (sums (tally one (seen t s (slots t))))
+unfoldable pub rollUpAnswer : List ℤ → VersionRecord → ℤ → ℤ → Rolled
+rollUpAnswer t v s key1 = unless (rollUpRefusal t v s) rolled.Refused (sums (tally key1 (seen t s (slots t))))
 
 -- the contract, and that it allows one outcome
-pub record RolledUp (t : List ℤ) (v : Version) (s one : ℤ) (r : Rolled) : Type 0 where
-  pub answer : r ≡ rollUpAnswer t v s one
+pub record RollUpContract (t : List ℤ) (v : VersionRecord) (s key1 : ℤ) (r : Rolled) : Type 0 where
+  pub answer : r ≡ rollUpAnswer t v s key1
 
-pub one-outcome : {t : List ℤ} {v : Version} {s one : ℤ} {r r′ : Rolled} → RolledUp t v s one r → RolledUp t v s one r′ → r ≡ r′
+pub one-outcome : {t : List ℤ} {v : VersionRecord} {s key1 : ℤ} {r r′ : Rolled} → RollUpContract t v s key1 r → RollUpContract t v s key1 r′ → r ≡ r′
 one-outcome a b = a .answer ∙ sym (b .answer)

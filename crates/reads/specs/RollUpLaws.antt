@@ -11,7 +11,7 @@ use mir.Val.{SFits}
 use Rattle.laws.specs.Tests.{by-test}
 use Rattle.laws.specs.Order.{eqZ}
 use Rattle.laws.specs.Sums.{sum-within, small-fits}
-use Rattle.version.specs.declared.Version.{Version}
+use Rattle.versions.specs.declared.VersionRecord.{VersionRecord}
 use Rattle.table.specs.declared.Slot.{Slot}
 use Rattle.table.specs.Slots.{slotAt}
 use Rattle.table.specs.TotalLaws.{Given, largestTotal, lawful-within}
@@ -26,46 +26,46 @@ use Rattle.reads.specs.RollUp.{Tally, counted, tallied, tally, seen}
 -- a tally of at most k rows
 pub record Bounded (k : ℕ) (n : Tally) : Type 0 where
   pub count : n .count ≤ k
-  pub first : natAbs (n .first) ≤ largestTotal * k
-  pub second : natAbs (n .second) ≤ largestTotal * k
+  pub total1 : natAbs (n .total1) ≤ largestTotal * k
+  pub total2 : natAbs (n .total2) ≤ largestTotal * k
 
 pub bounded-more : {k m : ℕ} {n : Tally} → k ≤ m → Bounded k n → Bounded m n
-bounded-more h b = record { count = omega arith; first = omega arith; second = omega arith }
+bounded-more h b = record { count = omega arith; total1 = omega arith; total2 = omega arith }
 
 -- a tally of at most 1,024 rows fits
 pub record SumsFit (n : Tally) : Type 0 where
-  pub first : SFits w64 (n .first)
-  pub second : SFits w64 (n .second)
+  pub total1 : SFits w64 (n .total1)
+  pub total2 : SFits w64 (n .total2)
 
 pub sums-fit : {n : Tally} → Bounded 1024 n → SumsFit n
-sums-fit {n} b = record { first = small-fits (n .first) (omega arith); second = small-fits (n .second) (omega arith) }
+sums-fit {n} b = record { total1 = small-fits (n .total1) (omega arith); total2 = small-fits (n .total2) (omega arith) }
 
 -- a row more
 pub counted-bounded : {k : ℕ} {a b : ℤ} (n : Tally) → Given a b → Bounded k n → Bounded (suc k) (counted a b n)
 counted-bounded {k} {a} {b} n g h = record {
   count = omega arith;
-  first = omega (arith, sum-within largestTotal k (n .first) a (h .first) (lawful-within a (g .first)));
-  second = omega (arith, sum-within largestTotal k (n .second) b (h .second) (lawful-within b (g .second)));
+  total1 = omega (arith, sum-within largestTotal k (n .total1) a (h .total1) (lawful-within a (g .total1)));
+  total2 = omega (arith, sum-within largestTotal k (n .total2) b (h .total2) (lawful-within b (g .total2)));
 }
 
-tallied-bounded : {k : ℕ} (one : ℤ) (x : Seen) (n : Tally) → LawfulRow x → Bounded k n → Bounded (suc k) (tallied one x n)
-tallied-bounded one (Row k1 k2 a b) n g h =
-    by-test (eqZ k1 one) (λ y. rw y (counted-bounded n g h)) (λ m. rw m (bounded-more (omega arith) h))
-tallied-bounded one NoRow n g h = bounded-more (omega arith) h
-tallied-bounded one (Refused r) n g h = bounded-more (omega arith) h
+tallied-bounded : {k : ℕ} (key1 : ℤ) (x : Seen) (n : Tally) → LawfulRow x → Bounded k n → Bounded (suc k) (tallied key1 x n)
+tallied-bounded key1 (Row k1 k2 a b) n g h =
+    by-test (eqZ k1 key1) (λ y. rw y (counted-bounded n g h)) (λ m. rw m (bounded-more (omega arith) h))
+tallied-bounded key1 NoRow n g h = bounded-more (omega arith) h
+tallied-bounded key1 (Refused r) n g h = bounded-more (omega arith) h
 
 -- ---- what is shown of a slot has the slot's first key word, which alone says whether it counts
-pub tallied-other : (s one : ℤ) (x : Slot) (n : Tally) → eqZ (x .key1) one ≡ false → tallied one (shown s x) n ≡ n
-tallied-other s one x n h = shown-own (λ r. tallied one r n ≡ n) s x (λ u a b. rw h) refl
+pub tallied-other : (s key1 : ℤ) (x : Slot) (n : Tally) → eqZ (x .key1) key1 ≡ false → tallied key1 (shown s x) n ≡ n
+tallied-other s key1 x n h = shown-own (λ r. tallied key1 r n ≡ n) s x (λ u a b. rw h) refl
 
-pub tallied-own : (s one : ℤ) (x : Slot) (n : Tally) {k1 k2 a b : ℤ} → eqZ (x .key1) one ≡ true → shown s x ≡ Row k1 k2 a b
-    → tallied one (shown s x) n ≡ counted a b n
-tallied-own s one x n {k1} {k2} {a} {b} h =
-    shown-own (λ r. r ≡ Row k1 k2 a b → tallied one r n ≡ counted a b n) s x (λ u c d e. rw h (cc)) (λ e. cc)
+pub tallied-own : (s key1 : ℤ) (x : Slot) (n : Tally) {k1 k2 a b : ℤ} → eqZ (x .key1) key1 ≡ true → shown s x ≡ Row k1 k2 a b
+    → tallied key1 (shown s x) n ≡ counted a b n
+tallied-own s key1 x n {k1} {k2} {a} {b} h =
+    shown-own (λ r. r ≡ Row k1 k2 a b → tallied key1 r n ≡ counted a b n) s x (λ u c d e. rw h (cc)) (λ e. cc)
 
 -- the first k slots, all well formed
-pub tally-bounded : (t : List ℤ) (v : Version) (s one : ℤ) (k : ℕ) → ((j : ℕ) → j < k → wellFormed (slotAt t j) v ≡ true)
-    → Bounded k (tally one (seen t s k))
-tally-bounded t v s one zero w = record { count = omega arith; first = omega arith; second = omega arith }
-tally-bounded t v s one (suc k) w =
-    tallied-bounded one (shown s (slotAt t k)) _ (shown-lawful s _ v (w k (omega arith))) (tally-bounded t v s one k (λ j h. w j (omega arith)))
+pub tally-bounded : (t : List ℤ) (v : VersionRecord) (s key1 : ℤ) (k : ℕ) → ((j : ℕ) → j < k → wellFormed (slotAt t j) v ≡ true)
+    → Bounded k (tally key1 (seen t s k))
+tally-bounded t v s key1 zero w = record { count = omega arith; total1 = omega arith; total2 = omega arith }
+tally-bounded t v s key1 (suc k) w =
+    tallied-bounded key1 (shown s (slotAt t k)) _ (shown-lawful s _ v (w k (omega arith))) (tally-bounded t v s key1 k (λ j h. w j (omega arith)))

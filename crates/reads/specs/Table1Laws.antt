@@ -5,7 +5,7 @@ use mathlib.Core.Bool.{true, false}
 use lib.IntN.{ℤ}
 use lib.Signed.{leZ}
 use Rattle.laws.specs.Tests.{clash}
-use Rattle.version.specs.declared.Version.{Version}
+use Rattle.versions.specs.declared.VersionRecord.{VersionRecord}
 use Rattle.table.specs.declared.Slot.{Slot}
 use Rattle.table.specs.Slots.{empty}
 use Rattle.table.specs.Operations.{insertOperation, updateOperation, deleteOperation, live}
@@ -47,11 +47,11 @@ shown-empty s = shown-own (λ r. r ≡ NoRow) s empty (λ u a b. clash refl u) r
 
 -- ---- a row that is shown of a well formed slot has lawful totals
 abbrev pub LawfulRow : Seen → Type 0
-LawfulRow (Row one two a b) = Given a b
+LawfulRow (Row key1 key2 total1 total2) = Given total1 total2
 LawfulRow NoRow = Unit {0}
 LawfulRow (Refused n) = Unit {0}
 
-pub shown-lawful : (s : ℤ) (x : Slot) (v : Version) → wellFormed x v ≡ true → LawfulRow (shown s x)
+pub shown-lawful : (s : ℤ) (x : Slot) (v : VersionRecord) → wellFormed x v ≡ true → LawfulRow (shown s x)
 shown-lawful s x v w =
     formed-cases x v w (λ e. rw (e, shown-empty s) tt)
     (λ u. shown-cases LawfulRow s x (λ n. search) (λ n. search) tt)

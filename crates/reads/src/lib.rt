@@ -6,25 +6,25 @@ ghost use mathlib.Core.List.{[], _∷_};
 ghost use Prim.Native.Nat.{_<_};
 ghost use Rattle.laws.specs.First.{first, unless};
 ghost use Rattle.laws.specs.Cells.{columns, cellAt};
-ghost use Rattle.version.specs.Record.{badRecord};
+ghost use Rattle.versions.specs.Record.{badRecord};
 ghost use Rattle.table.specs.Formed.{broken};
 ghost use Rattle.reads.specs.Table1.{table1, shown};
 ghost use Rattle.reads.specs.Table1Laws.{LawfulRow};
 ghost use Rattle.reads.specs.Session.{sessionRefusal};
-ghost use Rattle.reads.specs.ReadSlot.{SlotRead};
-ghost use Rattle.reads.specs.ReadKey.{KeyRead};
-ghost use Rattle.reads.specs.RollUp.{tallied, RolledUp};
+ghost use Rattle.reads.specs.ReadSlot.{ReadSlotContract};
+ghost use Rattle.reads.specs.ReadKey.{ReadKeyContract};
+ghost use Rattle.reads.specs.RollUp.{tallied, RollUpContract};
 ghost use Rattle.reads.specs.RollUpLaws.{Bounded};
 use table::Slot;
-use version::Version;
+use versions::VersionRecord;
 
 // What a slot or a key read answers: a row, as its two key words and two totals; no row; or a refusal.
 pub enum Seen {
     Row {
-        one: i64,
-        two: i64,
-        first: i64,
-        second: i64,
+        key1: i64,
+        key2: i64,
+        total1: i64,
+        total2: i64,
     },
     NoRow,
     Refused(u32),
@@ -32,15 +32,19 @@ pub enum Seen {
 
 // What a roll-up answers: the count of rows and the sums of both totals, or a refusal.
 pub enum Rolled {
-    Sums { count: u32, first: i64, second: i64 },
+    Sums {
+        count: u32,
+        total1: i64,
+        total2: i64,
+    },
     Refused(u32),
 }
 
 // The count of rows so far, and the sums of both totals.
 pub struct Tally {
     pub count: u32,
-    pub first: i64,
-    pub second: i64,
+    pub total1: i64,
+    pub total2: i64,
 }
 
 // The cells of Table 1.
@@ -87,46 +91,46 @@ pub fn show(x: Slot, session: i64) -> Seen
     ensures { λ r. ⌜ r ≡ shown session x ⌝ }
 {
     let run = x.run;
-    let one = x.key1;
-    let two = x.key2;
+    let key1 = x.key1;
+    let key2 = x.key2;
     let cell = cell_1(run <= session, table::column_of(x));
     if cell == READ_CURRENT {
-        let first = x.current1;
-        let second = x.current2;
+        let total1 = x.current1;
+        let total2 = x.current2;
         return Seen::Row {
-            one,
-            two,
-            first,
-            second,
+            key1,
+            key2,
+            total1,
+            total2,
         };
     }
     if cell == READ_OLD {
-        let first = x.old1;
-        let second = x.old2;
+        let total1 = x.old1;
+        let total2 = x.old2;
         return Seen::Row {
-            one,
-            two,
-            first,
-            second,
+            key1,
+            key2,
+            total1,
+            total2,
         };
     }
     Seen::NoRow
 }
 
 // The refusals that begin every read's list, 0 for none. The tests of 1 and 2 are one branch where neither holds.
-fn session_refusal(table: &[i64], version: Version, session: i64) -> u32
-    ensures { λ r. ⌜ r ≡ sessionRefusal (now (table .entry)) version session ⌝ }
+fn session_refusal(table: &[i64], versions: VersionRecord, session: i64) -> u32
+    ensures { λ r. ⌜ r ≡ sessionRefusal (now (table .entry)) versions session ⌝ }
 {
     let bad_table = table::bad_table(table);
-    let bad_record = version::bad_record(version);
+    let bad_record = versions::bad_record(versions);
     if bad_table | bad_record {
         if bad_table {
             return 1;
         }
         return 2;
     }
-    let unborn = version::is_unborn(version, session);
-    let expired = version::is_expired(version, session);
+    let unborn = versions::is_unborn(versions, session);
+    let expired = versions::is_expired(versions, session);
     if unborn {
         return 3;
     }
@@ -137,65 +141,65 @@ fn session_refusal(table: &[i64], version: Version, session: i64) -> u32
 }
 
 // What a session is answered of a slot: refusal 6, or what it sees.
-fn show_formed(x: Slot, version: Version, session: i64) -> Seen
-    requires { ⌜ badRecord version ≡ false ⌝ }
-    ensures { λ r. ⌜ r ≡ unless (first ((broken x version, 6) ∷ [])) Seen.Refused (shown session x) ⌝ }
+fn show_formed(x: Slot, versions: VersionRecord, session: i64) -> Seen
+    requires { ⌜ badRecord versions ≡ false ⌝ }
+    ensures { λ r. ⌜ r ≡ unless (first ((broken x versions, 6) ∷ [])) Seen.Refused (shown session x) ⌝ }
 {
-    if table::well_formed(x, version) {
+    if table::well_formed(x, versions) {
         return show(x, session);
     }
     Seen::Refused(6)
 }
 
 // Read a slot.
-pub fn read_slot(table: &[i64], version: Version, session: i64, slot: usize) -> Seen
-    ensures { λ r. ⌜ SlotRead (now (table .entry)) version session slot r ⌝ }
+pub fn read_slot(table: &[i64], versions: VersionRecord, session: i64, slot: usize) -> Seen
+    ensures { λ r. ⌜ ReadSlotContract (now (table .entry)) versions session slot r ⌝ }
 {
-    let refusal = session_refusal(table, version, session);
+    let refusal = session_refusal(table, versions, session);
     if refusal != 0 {
         return Seen::Refused(refusal);
     }
     if slot >= table.len() / table::SLOT_WORDS {
         return Seen::Refused(5);
     }
-    show_formed(table::slot_at(table, slot), version, session)
+    show_formed(table::slot_at(table, slot), versions, session)
 }
 
 // Read a key.
-pub fn read_key(table: &[i64], version: Version, session: i64, one: i64, two: i64) -> Seen
-    ensures { λ r. ⌜ KeyRead (now (table .entry)) version session one two r ⌝ }
+pub fn read_key(table: &[i64], versions: VersionRecord, session: i64, key1: i64, key2: i64) -> Seen
+    ensures { λ r. ⌜ ReadKeyContract (now (table .entry)) versions session key1 key2 r ⌝ }
 {
-    let refusal = session_refusal(table, version, session);
+    let refusal = session_refusal(table, versions, session);
     if refusal != 0 {
         return Seen::Refused(refusal);
     }
-    let k = searches::key_slot(table, one, two);
+    let k = table_searches::key_slot(table, key1, key2);
     if k >= table.len() / table::SLOT_WORDS {
         return Seen::NoRow;
     }
-    show_formed(table::slot_at(table, k), version, session)
+    show_formed(table::slot_at(table, k), versions, session)
 }
 
 // The tally with what a session sees of one slot more: a row with that first key word counts.
-fn tally_slot(tally: Tally, x: Slot, session: i64, one: i64) -> Tally
+fn tally_slot(tally: Tally, x: Slot, session: i64, key1: i64) -> Tally
     requires { ⌜ LawfulRow (shown session x) ⌝ }
     requires { ⌜ Bounded 1023 tally ⌝ }
-    ensures { λ r. ⌜ r ≡ tallied one (shown session x) tally ⌝ }
+    ensures { λ r. ⌜ r ≡ tallied key1 (shown session x) tally ⌝ }
 {
-    let key1 = x.key1;
-    if key1 != one {
+    let own = x.key1;
+    if own != key1 {
         return tally;
     }
     match show(x, session) {
         Seen::Row {
-            one: _,
-            two: _,
-            first,
-            second,
+            key1: _,
+            key2: _,
+            total1,
+            total2,
         } => Tally {
             count: tally.count + 1,
-            first: tally.first + first,
-            second: tally.second + second,
+            total1: tally.total1 + total1,
+            total2: tally.total2 + total2,
         },
         Seen::NoRow => tally,
         Seen::Refused(_) => tally,
@@ -203,31 +207,31 @@ fn tally_slot(tally: Tally, x: Slot, session: i64, one: i64) -> Tally
 }
 
 // Roll-up, in one pass: each slot is tested, and then counted.
-pub fn roll_up(table: &[i64], version: Version, session: i64, one: i64) -> Rolled
-    ensures { λ r. ⌜ RolledUp (now (table .entry)) version session one r ⌝ }
+pub fn roll_up(table: &[i64], versions: VersionRecord, session: i64, key1: i64) -> Rolled
+    ensures { λ r. ⌜ RollUpContract (now (table .entry)) versions session key1 r ⌝ }
 {
-    let refusal = session_refusal(table, version, session);
+    let refusal = session_refusal(table, versions, session);
     if refusal != 0 {
         return Rolled::Refused(refusal);
     }
     let slots = table.len() / table::SLOT_WORDS;
     let mut tally = Tally {
         count: 0,
-        first: 0,
-        second: 0,
+        total1: 0,
+        total2: 0,
     };
     let mut k: usize = 0;
     while k < slots {
         let x = table::slot_at(table, k);
-        if !table::well_formed(x, version) {
+        if !table::well_formed(x, versions) {
             return Rolled::Refused(6);
         }
-        tally = tally_slot(tally, x, session, one);
+        tally = tally_slot(tally, x, session, key1);
         k += 1;
     }
     Rolled::Sums {
         count: tally.count,
-        first: tally.first,
-        second: tally.second,
+        total1: tally.total1,
+        total2: tally.total2,
     }
 }

@@ -1,4 +1,4 @@
 // The program `steps` of document 01, over its session there.
 fn main() {
-    stepper::run();
+    steps_io::run();
 }

@@ -6,8 +6,8 @@ use lib.IntN.{ℤ, pos}
 use Rattle.laws.specs.Tests.{all}
 use Rattle.laws.specs.Order.{eqZ, fromTo}
 use Rattle.laws.specs.Lowest.{some}
-use Rattle.version.specs.declared.Version.{Version}
-use Rattle.version.specs.Record.{lastRun}
+use Rattle.versions.specs.declared.VersionRecord.{VersionRecord}
+use Rattle.versions.specs.Record.{lastRun}
 use Rattle.table.specs.declared.Slot.{Slot}
 use Rattle.table.specs.Slots.{slots, slotAt}
 use Rattle.table.specs.Operations.{insertOperation, deleteOperation}
@@ -36,7 +36,7 @@ oldZero x = eqZ (x .old1) (pos 0) && eqZ (x .old2) (pos 0)
 
 -- its operation is 1 to 3, its run number is from 1 to current (to current + 1 while a run is active), its four totals are
 -- in range and, for operation 1, its old totals are 0
-unfoldable pub usedWell : Slot → Version → Bool
+unfoldable pub usedWell : Slot → VersionRecord → Bool
 usedWell x v =
     all (fromTo insertOperation deleteOperation (x .operation)
     ∷ fromTo (pos 1) (lastRun v) (x .run)
@@ -45,13 +45,13 @@ usedWell x v =
     ∷ [])
 
 -- a slot is well formed if it is all zeros, or that
-unfoldable pub wellFormed : Slot → Version → Bool
+unfoldable pub wellFormed : Slot → VersionRecord → Bool
 wellFormed x v = allZeros x || usedWell x v
 
 -- 6: a slot that the call rests on is not well formed
-abbrev pub broken : Slot → Version → Bool
+abbrev pub broken : Slot → VersionRecord → Bool
 broken x v = not (wellFormed x v)
 
 -- 6, where the call rests on any slot: one of them is not well formed
-unfoldable pub anyBroken : List ℤ → Version → Bool
+unfoldable pub anyBroken : List ℤ → VersionRecord → Bool
 anyBroken t v = some (λ k. broken (slotAt t k) v) (slots t)

@@ -10,8 +10,8 @@ use borrow.Author.Tests.{leb-true, eqb-false}
 use Rattle.laws.specs.Tests.{all, all-at, all-no, by-test, clash, not-no}
 use Rattle.laws.specs.Order.{eqZ, eqZ-true, fromTo, from-to, leZ-trans}
 use Rattle.laws.specs.Lowest.{none-passes, all-fail}
-use Rattle.version.specs.declared.Version.{Version}
-use Rattle.version.specs.Record.{lastRun}
+use Rattle.versions.specs.declared.VersionRecord.{VersionRecord}
+use Rattle.versions.specs.Record.{lastRun}
 use Rattle.table.specs.declared.Slot.{Slot}
 use Rattle.table.specs.Slots.{empty, slots, slotAt}
 use Rattle.table.specs.SlotLaws.{slot-path}
@@ -21,7 +21,7 @@ use Rattle.table.specs.Totals.{lawful}
 use Rattle.table.specs.Formed.{allZeros, totalsLawful, oldZero, usedWell, wellFormed, broken, anyBroken}
 
 -- ---- what a used slot is
-pub record Used (x : Slot) (v : Version) : Type 0 where
+pub record Used (x : Slot) (v : VersionRecord) : Type 0 where
   pub operation : fromTo insertOperation deleteOperation (x .operation) ≡ true
   pub run : fromTo (pos 1) (lastRun v) (x .run) ≡ true
   pub current1 : lawful (x .current1) ≡ true
@@ -35,11 +35,11 @@ pub empty-zeros : allZeros empty ≡ true
 unfolding allZeros all
 empty-zeros = refl
 
-pub empty-formed : (v : Version) → wellFormed empty v ≡ true
+pub empty-formed : (v : VersionRecord) → wellFormed empty v ≡ true
 unfolding wellFormed allZeros all
 empty-formed v = refl
 
-pub used-formed : {x : Slot} {v : Version} → Used x v → wellFormed x v ≡ true
+pub used-formed : {x : Slot} {v : VersionRecord} → Used x v → wellFormed x v ≡ true
 unfolding wellFormed usedWell totalsLawful all
 used-formed {x} {v} u = simp (u .operation, u .run, u .current1, u .current2, u .old1, u .old2, u .old-of-insert, or-true)
 
@@ -50,7 +50,7 @@ zeros-empty x z =
     slot-path (eqZ-true _ _ (all-at _ 0 z)) (eqZ-true _ _ (all-at _ 1 z)) (eqZ-true _ _ (all-at _ 2 z)) (eqZ-true _ _ (all-at _ 3 z))
     (eqZ-true _ _ (all-at _ 4 z)) (eqZ-true _ _ (all-at _ 5 z)) (eqZ-true _ _ (all-at _ 6 z)) (eqZ-true _ _ (all-at _ 7 z))
 
-well-used : {x : Slot} {v : Version} → usedWell x v ≡ true → Used x v
+well-used : {x : Slot} {v : VersionRecord} → usedWell x v ≡ true → Used x v
 unfolding usedWell totalsLawful
 well-used u =
     let t = all-at _ 2 u in
@@ -64,12 +64,12 @@ well-used u =
       old-of-insert = all-at _ 3 u;
     }
 
-pub formed-cases : (x : Slot) (v : Version) → wellFormed x v ≡ true → {P : Type 0} → (x ≡ empty → P) → (Used x v → P) → P
+pub formed-cases : (x : Slot) (v : VersionRecord) → wellFormed x v ≡ true → {P : Type 0} → (x ≡ empty → P) → (Used x v → P) → P
 unfolding wellFormed
 formed-cases x v w f g = by-test (allZeros x) (λ z. f (zeros-empty x z)) (λ n. g (well-used (rw n at w)))
 
 -- ---- a slot with operation 0 is well formed if it is all zeros, and another if it is used well
-empty-unused : (x : Slot) (v : Version) → x .operation ≡ emptyOperation → usedWell x v ≡ false
+empty-unused : (x : Slot) (v : VersionRecord) → x .operation ≡ emptyOperation → usedWell x v ≡ false
 unfolding usedWell
 empty-unused x v e = all-no _ 0 (rw e refl)
 
@@ -77,20 +77,20 @@ used-nonzero : (x : Slot) → eqZ (x .operation) emptyOperation ≡ false → al
 unfolding allZeros
 used-nonzero x n = all-no _ 1 n
 
-pub formed-empty : (x : Slot) (v : Version) → x .operation ≡ emptyOperation → wellFormed x v ≡ allZeros x
+pub formed-empty : (x : Slot) (v : VersionRecord) → x .operation ≡ emptyOperation → wellFormed x v ≡ allZeros x
 unfolding wellFormed
 formed-empty x v e = rw (empty-unused x v e) (or-false _)
 
-pub formed-used : (x : Slot) (v : Version) → eqZ (x .operation) emptyOperation ≡ false → wellFormed x v ≡ usedWell x v
+pub formed-used : (x : Slot) (v : VersionRecord) → eqZ (x .operation) emptyOperation ≡ false → wellFormed x v ≡ usedWell x v
 unfolding wellFormed
 formed-used x v n = rw (used-nonzero x n)
 
 -- ---- a live slot that is well formed is used
-pub live-used : (x : Slot) (v : Version) → live x ≡ true → wellFormed x v ≡ true → Used x v
+pub live-used : (x : Slot) (v : VersionRecord) → live x ≡ true → wellFormed x v ≡ true → Used x v
 live-used x v l w = formed-cases x v w (λ e. clash l (rw e dead-empty)) (λ u. u)
 
 -- ---- where no slot is broken, each is well formed
-pub none-broken : (t : List ℤ) (v : Version) → anyBroken t v ≡ false → (k : ℕ) → k < slots t → wellFormed (slotAt t k) v ≡ true
+pub none-broken : (t : List ℤ) (v : VersionRecord) → anyBroken t v ≡ false → (k : ℕ) → k < slots t → wellFormed (slotAt t k) v ≡ true
 unfolding anyBroken
 none-broken t v h k l = not-no (none-passes (λ j. broken (slotAt t j) v) (slots t) h k l)
 
@@ -101,20 +101,20 @@ three (pos n) r a b =
     ap pos (omega (arith, leb-true 1 n (f .low), leb-true n 3 (f .high), eqb-false n 1 a, eqb-false n 2 b))
 three (negsuc n) r a b = clash r refl
 
-pub dead-deleted : (x : Slot) (v : Version) → Used x v → live x ≡ false → x .operation ≡ deleteOperation
+pub dead-deleted : (x : Slot) (v : VersionRecord) → Used x v → live x ≡ false → x .operation ≡ deleteOperation
 dead-deleted x v u d =
     three (x .operation) (u .operation)
     (by-test (eqZ (x .operation) insertOperation) (λ y. clash (live-insert x (eqZ-true _ _ y)) d) (λ n. n))
     (by-test (eqZ (x .operation) updateOperation) (λ y. clash (live-update x (eqZ-true _ _ y)) d) (λ n. n))
 
 -- ---- a slot that is well formed stays so where the last run is no lower
-pub formed-later : (x : Slot) (v w : Version) → leZ (lastRun v) (lastRun w) ≡ true → wellFormed x v ≡ true → wellFormed x w ≡ true
+pub formed-later : (x : Slot) (v w : VersionRecord) → leZ (lastRun v) (lastRun w) ≡ true → wellFormed x v ≡ true → wellFormed x w ≡ true
 formed-later x v w l h =
     formed-cases x v h (λ e. rw e (empty-formed w))
     (λ u. let r = from-to (pos 1) (lastRun v) (x .run) (u .run) in
     used-formed (search (ap₂ _&&_ (r .low) (leZ-trans (x .run) (lastRun v) (lastRun w) (r .high) l))))
 
 -- ---- where each slot is well formed, none is broken
-pub all-formed : (t : List ℤ) (v : Version) → ((k : ℕ) → wellFormed (slotAt t k) v ≡ true) → anyBroken t v ≡ false
+pub all-formed : (t : List ℤ) (v : VersionRecord) → ((k : ℕ) → wellFormed (slotAt t k) v ≡ true) → anyBroken t v ≡ false
 unfolding anyBroken
 all-formed t v f = all-fail _ (slots t) (λ k l. ap not (f k))

@@ -11,14 +11,14 @@ use Rattle.table.specs.Totals.{lowestTotal, highestTotal, lawful, unlawf
 
 -- ---- what was not refused is lawful
 pub record Given (a b : ℤ) : Type 0 where
-  pub first : lawful a ≡ true
-  pub second : lawful b ≡ true
+  pub total1 : lawful a ≡ true
+  pub total2 : lawful b ≡ true
 
 pub given : (a b : ℤ) → unlawful a b ≡ false → Given a b
 unfolding unlawful
 given a b h =
     by-test (lawful a)
-    (λ y. by-test (lawful b) (λ z. record { first = y; second = z }) (λ n. clash refl (rw (y, n) at h)))
+    (λ y. by-test (lawful b) (λ z. record { total1 = y; total2 = z }) (λ n. clash refl (rw (y, n) at h)))
     (λ n. clash refl (rw n at h))
 
 -- the null is lawful

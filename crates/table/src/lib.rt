@@ -4,13 +4,13 @@
 ghost use mathlib.Core.Path.{_≡_};
 ghost use mathlib.Core.Bool.{true, false};
 ghost use Prim.Native.Nat.{_<_};
-ghost use Rattle.version.specs.Record.{badRecord};
+ghost use Rattle.versions.specs.Record.{badRecord};
 ghost use Rattle.table.specs.Slots.{badTable, slots, slotAt, putSlot};
 ghost use Rattle.table.specs.Operations.{column, live};
 ghost use Rattle.table.specs.OperationLaws.{liveWord};
 ghost use Rattle.table.specs.Totals.{lawful, unlawful};
 ghost use Rattle.table.specs.Formed.{allZeros, totalsLawful, usedWell, wellFormed};
-use version::Version;
+use versions::VersionRecord;
 
 // Eight words to a slot, and at most 1,024 slots.
 pub const SLOT_WORDS: usize = 8;
@@ -111,10 +111,10 @@ pub fn is_lawful(total: i64) -> bool
 }
 
 // Refusal 13.
-pub fn is_unlawful(first: i64, second: i64) -> bool
-    ensures { λ r. ⌜ r ≡ unlawful first second ⌝ }
+pub fn is_unlawful(total1: i64, total2: i64) -> bool
+    ensures { λ r. ⌜ r ≡ unlawful total1 total2 ⌝ }
 {
-    !(is_lawful(first) & is_lawful(second))
+    !(is_lawful(total1) & is_lawful(total2))
 }
 
 // The slot's column in the decision tables.
@@ -174,15 +174,15 @@ fn totals_lawful(x: Slot) -> bool
     is_lawful(x.current1) & is_lawful(x.current2) & is_lawful(x.old1) & is_lawful(x.old2)
 }
 
-fn used_well(x: Slot, version: Version) -> bool
-    requires { ⌜ badRecord version ≡ false ⌝ }
-    ensures { λ r. ⌜ r ≡ usedWell x version ⌝ }
+fn used_well(x: Slot, versions: VersionRecord) -> bool
+    requires { ⌜ badRecord versions ≡ false ⌝ }
+    ensures { λ r. ⌜ r ≡ usedWell x versions ⌝ }
 {
     let run = x.run;
     let operation = x.operation;
     let old1 = x.old1;
     let old2 = x.old2;
-    let last = version::last_run(version);
+    let last = versions::last_run(versions);
     ((INSERT <= operation) & (operation <= DELETE))
         & ((1 <= run) & (run <= last))
         & totals_lawful(x)
@@ -190,13 +190,13 @@ fn used_well(x: Slot, version: Version) -> bool
 }
 
 // Refusal 6 is that a slot is not.
-pub fn well_formed(x: Slot, version: Version) -> bool
-    requires { ⌜ badRecord version ≡ false ⌝ }
-    ensures { λ r. ⌜ r ≡ wellFormed x version ⌝ }
+pub fn well_formed(x: Slot, versions: VersionRecord) -> bool
+    requires { ⌜ badRecord versions ≡ false ⌝ }
+    ensures { λ r. ⌜ r ≡ wellFormed x versions ⌝ }
 {
     let operation = x.operation;
     if operation == 0 {
         return all_zeros(x);
     }
-    used_well(x, version)
+    used_well(x, versions)
 }

@@ -6,7 +6,7 @@ use Rattle.blocks.specs.FrontLaws.{idleTests}
 use Rattle.blocks.proofs.block_refusal.Statement.{statement}
 use Rattle.blocks.proofs.block_refusal.Tie as tie
 
-past7 : (c : tie.Else1) → first (idleTests (c .before .before .args .table .now) (c .before .before .args .version)) ≡ 0
+past7 : (c : tie.Else1) → first (idleTests (c .before .before .args .table .now) (c .before .before .args .versions)) ≡ 0
 past7 c = sym (c .before .idle-refusal .ensures) ∙ c .if1 .left
 
 isIdle : tie.Need-returns

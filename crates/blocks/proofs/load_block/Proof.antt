@@ -4,7 +4,7 @@ use mathlib.Core.Path.{_≡_, sym, _∙_}
 use native.Mathlib.Omega.{arith}
 use borrow.Author.Needs.{needs}
 use Rattle.laws.specs.First.{first, none, stop}
-use Rattle.loads.specs.Slots.{slotBlockWrong}
+use Rattle.blocks_loads.specs.LoadedSlots.{slotBlockWrong}
 use Rattle.blocks.specs.FrontLaws.{blockTests, within}
 use Rattle.blocks.specs.EndLaws.{end-14, end-15, end-16, end-0, load-block-end}
 use Rattle.blocks.specs.LoadBlock.{loadBlockRefusal}
@@ -13,7 +13,7 @@ use Rattle.blocks.proofs.load_block.Statement.{statement}
 use Rattle.blocks.proofs.load_block.Tie as tie
 
 -- the tests before 14 do not refuse
-front : (c : tie.Else1) → let a = c .before .before .before .before .args in first (blockTests (a .table .now) (a .version) (a .number)) ≡ 0
+front : (c : tie.Else1) → let a = c .before .before .before .before .args in first (blockTests (a .table .now) (a .versions) (a .number)) ≡ 0
 front c = sym (c .before .block-refusal .ensures) ∙ c .if1 .left
 
 refuses : tie.Need-returns
@@ -41,7 +41,7 @@ is16 c =
     let a = size .before .before .before .before .before .args in
     block-not-loaded
     (load-block-end _ _ _ _ (front (size .before))
-    ∙ end-16 _ (slotBlockWrong (a .table .now) (a .version) (a .number) (a .block .now))
+    ∙ end-16 _ (slotBlockWrong (a .table .now) (a .versions) (a .number) (a .block .now))
     (size .if2 .left) (sym (check .before .check-wrong .ensures) ∙ check .if3 .left) (rw (c .before .slot-block-wrong .ensures) at (c .if4 .taken)))
     (omega arith)
 
@@ -53,7 +53,7 @@ loads c =
     let a = size .before .before .before .before .before .args in
     block-loaded
     (load-block-end _ _ _ _ (front (size .before))
-    ∙ end-0 _ (slotBlockWrong (a .table .now) (a .version) (a .number) (a .block .now))
+    ∙ end-0 _ (slotBlockWrong (a .table .now) (a .versions) (a .number) (a .block .now))
     (size .if2 .left) (sym (check .before .check-wrong .ensures) ∙ check .if3 .left) (rw (words .before .slot-block-wrong .ensures) at (words .if4 .left)))
     (c .before .load-slots .ensures)
 

@@ -9,7 +9,7 @@ use Rattle.blocks.specs.ContractLaws.{zeros-handed, block-saved}
 use Rattle.blocks.proofs.save_block.Statement.{statement}
 use Rattle.blocks.proofs.save_block.Tie as tie
 
-past5 : (c : tie.Else1) → let a = c .before .before .args in first (blockTests (a .table .now) (a .version) (a .number)) ≡ 0
+past5 : (c : tie.Else1) → let a = c .before .before .args in first (blockTests (a .table .now) (a .versions) (a .number)) ≡ 0
 past5 c = sym (c .before .block-refusal .ensures) ∙ c .if1 .left
 
 refuses : tie.Need-returns

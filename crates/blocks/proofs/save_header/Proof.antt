@@ -9,20 +9,20 @@ use Rattle.laws.specs.Bits.{plain}
 use Rattle.laws.specs.First.{first, none}
 use Rattle.table.specs.SlotLaws.{lengths}
 use Rattle.blocks.specs.FrontLaws.{idleTests}
-use Rattle.blocks.specs.Headers.{headerWords}
+use Rattle.blocks.specs.HeaderBlocks.{headerWords}
 use Rattle.blocks.specs.HeaderLaws.{Natural, current-natural}
 use Rattle.blocks.specs.SaveHeader.{saveHeaderRefusal}
 use Rattle.blocks.specs.ContractLaws.{zeros-handed, header-saved}
 use Rattle.blocks.proofs.save_header.Statement.{statement}
 use Rattle.blocks.proofs.save_header.Tie as tie
 
-past7 : (c : tie.Else1) → first (idleTests (c .before .before .args .table .now) (c .before .before .args .version)) ≡ 0
+past7 : (c : tie.Else1) → first (idleTests (c .before .before .args .table .now) (c .before .before .args .versions)) ≡ 0
 past7 c = sym (c .before .idle-refusal .ensures) ∙ c .if1 .left
 
-current : (c : tie.Else1) → Natural (c .before .before .args .version .current)
+current : (c : tie.Else1) → Natural (c .before .before .args .versions .current)
 current c = current-natural _ (none _ tt (past7 c) 2)
 
-fits : (c : tie.After-struct-told) → SFits w64 (c .before .before .before .args .version .current)
+fits : (c : tie.After-struct-told) → SFits w64 (c .before .before .before .args .versions .current)
 fits c = search needs
 
 refuses : tie.Need-returns

@@ -8,7 +8,7 @@ use borrow.Author.Tests.{lt-ltb, le-ltb}
 use Rattle.laws.specs.First.{skip, hit, done}
 use Rattle.laws.specs.Bits.{plain}
 use Rattle.table.specs.Formed.{broken}
-use Rattle.searches.specs.Keys.{keyed, keyLive}
+use Rattle.table_searches.specs.Keys.{keyed, keyLive}
 use Rattle.changes.specs.Insert.{insertSlot}
 use Rattle.changes.specs.PlacedLaws.{refused, passed}
 use Rattle.changes.specs.Looked.{Looked, looked, looked-live}
@@ -26,29 +26,29 @@ abbrev s10 : tie.Else2 → tie.Start
 s10 c = s6 (c .before .before)
 
 look : (c : tie.After-is-broken) → let a = start c .args in
-    Looked (a .table .now) (a .version) (a .one) (a .two) (c .before .before .before .key-slot .result) (c .before .slot-at .result) (c .is-broken .result)
+    Looked (a .table .now) (a .versions) (a .key1) (a .key2) (c .before .before .before .key-slot .result) (c .before .slot-at .result) (c .is-broken .result)
 look c =
     let f = start c .fits in
-    looked (f .one) (f .two) (c .before .before .before .key-slot .ensures) (c .before .slot-at .ensures) (c .is-broken .ensures)
+    looked (f .key1) (f .key2) (c .before .before .before .key-slot .ensures) (c .before .slot-at .ensures) (c .is-broken .ensures)
 
 is6 : tie.Need-returns
 is6 c = record { leaves = refused (hit _ (look (c .before) .test6 ∙ c .if1 .taken)) (omega arith) }
 
-past6 : (c : tie.Else1) → let a = s6 c .args in broken (keyed (a .table .now) (a .one) (a .two)) (a .version) ≡ false
+past6 : (c : tie.Else1) → let a = s6 c .args in broken (keyed (a .table .now) (a .key1) (a .key2)) (a .versions) ≡ false
 past6 c = look (c .before) .test6 ∙ c .if1 .left
 
-live10 : (c : tie.After-is-live) → let a = s6 (c .before) .args in keyLive (a .table .now) (a .one) (a .two) ≡ c .is-live .result
+live10 : (c : tie.After-is-live) → let a = s6 (c .before) .args in keyLive (a .table .now) (a .key1) (a .key2) ≡ c .is-live .result
 live10 c = looked-live (look (c .before .before)) (c .is-live .ensures)
 
 is10 : tie.Need-returns-2
 is10 c = record { leaves = refused (skip _ _ (past6 (c .before .before)) ∙ hit _ (live10 (c .before) ∙ c .if2 .taken)) (omega arith) }
 
-past10 : (c : tie.Else2) → let a = s10 c .args in keyLive (a .table .now) (a .one) (a .two) ≡ false
+past10 : (c : tie.Else2) → let a = s10 c .args in keyLive (a .table .now) (a .key1) (a .key2) ≡ false
 past10 c = live10 (c .before) ∙ c .if2 .left
 
 -- the slot that is taken
 taken : (c : tie.After-slot-to-take) → let a = s10 (c .before .before) .args in
-    c .slot-to-take .result ≡ insertSlot (a .table .now) (a .version) (a .one) (a .two)
+    c .slot-to-take .result ≡ insertSlot (a .table .now) (a .versions) (a .key1) (a .key2)
 taken c = rw (look (c .before .before .before .before .before) .number) at (c .slot-to-take .ensures)
 
 is12 : tie.Need-returns-3
@@ -66,7 +66,7 @@ adds c =
     let g = e .before .before in
     let f = s10 e .fits in
     let past12 = ap not (lt-ltb _ _ (rw (taken (h .before)) at (h .if3 .left))) in
-    let y = rw (look (g .before) .slot, plain _ (f .one), plain _ (f .two), plain _ (f .first), plain _ (f .second)) at (w .change .ensures) in
+    let y = rw (look (g .before) .slot, plain _ (f .key1), plain _ (f .key2), plain _ (f .total1), plain _ (f .total2)) at (w .change .ensures) in
     record { leaves = passed (skip _ _ (past6 g) ∙ skip _ _ (past10 e) ∙ skip _ _ past12 ∙ done) (rw (taken (h .before), y) at (p .place .ensures)) }
 
 pub add-row-spec : {M : Type 1} → statement M

@@ -8,8 +8,8 @@ use Rattle.laws.specs.Tests.{not-no}
 use Rattle.laws.specs.First.{skip, hit}
 use Rattle.laws.specs.Bits.{plain}
 use Rattle.table.specs.Formed.{broken}
-use Rattle.searches.specs.Keys.{keyed}
-use Rattle.searches.specs.KeyLaws.{live-placed}
+use Rattle.table_searches.specs.Keys.{keyed}
+use Rattle.table_searches.specs.KeyLaws.{live-placed}
 use Rattle.changes.specs.Update.{notLive}
 use Rattle.changes.specs.PlacedLaws.{refused, row-changed}
 use Rattle.changes.specs.Looked.{Looked, looked, looked-live}
@@ -27,24 +27,24 @@ abbrev s11 : tie.Else2 → tie.Start
 s11 c = s6 (c .before .before)
 
 look : (c : tie.After-is-broken) → let a = start c .args in
-    Looked (a .table .now) (a .version) (a .one) (a .two) (c .before .before .before .key-slot .result) (c .before .slot-at .result) (c .is-broken .result)
+    Looked (a .table .now) (a .versions) (a .key1) (a .key2) (c .before .before .before .key-slot .result) (c .before .slot-at .result) (c .is-broken .result)
 look c =
     let f = start c .fits in
-    looked (f .one) (f .two) (c .before .before .before .key-slot .ensures) (c .before .slot-at .ensures) (c .is-broken .ensures)
+    looked (f .key1) (f .key2) (c .before .before .before .key-slot .ensures) (c .before .slot-at .ensures) (c .is-broken .ensures)
 
 is6 : tie.Need-returns
 is6 c = record { leaves = refused (hit _ (look (c .before) .test6 ∙ c .if1 .taken)) (omega arith) }
 
-past6 : (c : tie.Else1) → let a = s6 c .args in broken (keyed (a .table .now) (a .one) (a .two)) (a .version) ≡ false
+past6 : (c : tie.Else1) → let a = s6 c .args in broken (keyed (a .table .now) (a .key1) (a .key2)) (a .versions) ≡ false
 past6 c = look (c .before) .test6 ∙ c .if1 .left
 
-live11 : (c : tie.After-is-live) → let a = s6 (c .before) .args in notLive (a .table .now) (a .one) (a .two) ≡ not (c .is-live .result)
+live11 : (c : tie.After-is-live) → let a = s6 (c .before) .args in notLive (a .table .now) (a .key1) (a .key2) ≡ not (c .is-live .result)
 live11 c = ap not (looked-live (look (c .before .before)) (c .is-live .ensures))
 
 is11 : tie.Need-returns-2
 is11 c = record { leaves = refused (skip _ _ (past6 (c .before .before)) ∙ hit _ (live11 (c .before) ∙ c .if2 .taken)) (omega arith) }
 
-past11 : (c : tie.Else2) → let a = s11 c .args in notLive (a .table .now) (a .one) (a .two) ≡ false
+past11 : (c : tie.Else2) → let a = s11 c .args in notLive (a .table .now) (a .key1) (a .key2) ≡ false
 past11 c = live11 (c .before) ∙ c .if2 .left
 
 -- a live key's slot is one of the table's
@@ -62,7 +62,7 @@ changes c =
     let g = e .before .before in
     let s = s11 e in
     let f = s .fits in
-    let y = rw (look (g .before) .slot, plain _ (f .one), plain _ (f .two), plain _ (f .first), plain _ (f .second)) at (w .change .ensures) in
+    let y = rw (look (g .before) .slot, plain _ (f .key1), plain _ (f .key2), plain _ (f .total1), plain _ (f .total2)) at (w .change .ensures) in
     row-changed (s .pre .0) (past6 g) (past11 e) (rw (look (g .before) .number, y) at (p .place .ensures))
 
 pub change-row-spec : {M : Type 1} → statement M

@@ -10,7 +10,7 @@ use Rattle.changes.specs.PlacedLaws.{refused, passed, delete-leaves}
 use Rattle.changes.proofs.delete.Statement.{statement}
 use Rattle.changes.proofs.delete.Tie as tie
 
-past8 : (c : tie.Else1) → let a = c .before .before .before .args in runningRefusal (a .table .now) (a .version) ≡ 0
+past8 : (c : tie.Else1) → let a = c .before .before .before .args in runningRefusal (a .table .now) (a .versions) ≡ 0
 past8 c = sym (c .before .running-refusal .ensures) ∙ c .if1 .left
 
 stops : tie.Need-returns
@@ -22,7 +22,7 @@ unfolding deleteRefusal runningRefusal
 rest c =
     let e = c .before .before .before in
     let f = e .before .before .before .fits in
-    let w = rw (plain _ (f .one), plain _ (f .two)) at (c .before .change-row .ensures) in
+    let w = rw (plain _ (f .key1), plain _ (f .key2)) at (c .before .change-row .ensures) in
     delete-leaves (passed (pass (runningTests _ _) _ tt (past8 e)) (w .leaves))
 
 pub delete-spec : {M : Type 1} → statement M

@@ -4,7 +4,7 @@ use mathlib.Core.Path.{_≡_, sym, _∙_}
 use mathlib.Core.Bool.{false}
 use borrow.Author.Needs.{needs}
 use Rattle.laws.specs.First.{skip, hit, done}
-use Rattle.version.specs.Record.{badRecord}
+use Rattle.versions.specs.Record.{badRecord}
 use Rattle.table.specs.Slots.{badTable}
 use Rattle.changes.specs.Running.{runningRefusal}
 use Rattle.changes.proofs.running_refusal.Statement.{statement}
@@ -13,7 +13,7 @@ use Rattle.changes.proofs.running_refusal.Tie as tie
 past1 : (c : tie.Else1) → badTable (c .before .before .args .table .now) ≡ false
 past1 c = sym (c .before .bad-table .ensures) ∙ c .if1 .left
 
-past2 : (c : tie.Else2) → badRecord (c .before .before .before .before .args .version) ≡ false
+past2 : (c : tie.Else2) → badRecord (c .before .before .before .before .args .versions) ≡ false
 past2 c = sym (c .before .bad-record .ensures) ∙ c .if2 .left
 
 is1 : tie.Need-returns

@@ -10,10 +10,10 @@ use Rattle.changes.proofs.update.Statement.{statement}
 use Rattle.changes.proofs.update.Tie as tie
 
 refusal : (c : tie.After-given-refusal) → let a = c .before .before .args in
-    givenRefusal (a .table .now) (a .version) (a .first) (a .second) ≡ c .given-refusal .result
-refusal c = let f = c .before .before .fits in sym (rw (plain _ (f .first), plain _ (f .second)) at (c .given-refusal .ensures))
+    givenRefusal (a .table .now) (a .versions) (a .total1) (a .total2) ≡ c .given-refusal .result
+refusal c = let f = c .before .before .fits in sym (rw (plain _ (f .total1), plain _ (f .total2)) at (c .given-refusal .ensures))
 
-past13 : (c : tie.Else1) → let a = c .before .before .before .args in givenRefusal (a .table .now) (a .version) (a .first) (a .second) ≡ 0
+past13 : (c : tie.Else1) → let a = c .before .before .before .args in givenRefusal (a .table .now) (a .versions) (a .total1) (a .total2) ≡ 0
 past13 c = refusal (c .before) ∙ c .if1 .left
 
 stops : tie.Need-returns
@@ -25,7 +25,7 @@ unfolding updateRefusal
 rest c =
     let e = c .before .before .before in
     let f = e .before .before .before .fits in
-    let w = rw (plain _ (f .one), plain _ (f .two), plain _ (f .first), plain _ (f .second)) at (c .before .change-row .ensures) in
+    let w = rw (plain _ (f .key1), plain _ (f .key2), plain _ (f .total1), plain _ (f .total2)) at (c .before .change-row .ensures) in
     update-leaves (passed (pass (givenTests _ _ _ _) _ tt (past13 e)) (w .leaves))
 
 pub update-spec : {M : Type 1} → statement M

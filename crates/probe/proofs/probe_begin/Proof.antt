@@ -10,7 +10,7 @@ returns c =
     let k = c .before .before in
     let b = k .before .before in
     let v = b .before .version-of .ensures in
-    (rw (c .put-numbered .ensures, b .begun .ensures .answer, v), rw (k .keep .ensures, b .begun .ensures .version, v))
+    (rw (c .put-numbered .ensures, b .begin-by-value .ensures .answer, v), rw (k .keep-record .ensures, b .begin-by-value .ensures .versions, v))
 
 pub probe-begin-spec : {M : Type 1} → statement M
 probe-begin-spec = tie.close (tie.spec (λ c κs. search needs) (λ c κs. search needs) (λ c κs. search needs) (λ c κs. search needs) returns)

@@ -8,7 +8,7 @@ use Rattle.laws.specs.First.{first, after, unless-refused, unless-done, skip, d
 use Rattle.table.specs.Slots.{empty}
 use Rattle.table.specs.SlotLaws.{slotAt-past}
 use Rattle.table.specs.FormedLaws.{empty-formed}
-use Rattle.searches.specs.Keys.{keySlot, keyed}
+use Rattle.table_searches.specs.Keys.{keySlot, keyed}
 use Rattle.reads.specs.declared.Seen.the-variants.{Refused}
 use Rattle.reads.specs.Session.{sessionTests, sessionRefusal, Open, opened}
 use Rattle.reads.specs.Table1Laws.{shown-empty}
@@ -24,21 +24,21 @@ abbrev s4 : P4 → tie.Start
 s4 c = c .before .before
 
 -- the first four tests, asked at once
-asked : (c : tie.After-session-refusal) → let a = c .before .args in sessionRefusal (a .table .now) (a .version) (a .session) ≡ c .session-refusal .result
+asked : (c : tie.After-session-refusal) → let a = c .before .args in sessionRefusal (a .table .now) (a .versions) (a .session) ≡ c .session-refusal .result
 asked c = sym (rw (plain _ (c .before .fits .session)) at (c .session-refusal .ensures))
 
-can : (c : P4) → let a = s4 c .args in Open (a .table .now) (a .version) (a .session)
+can : (c : P4) → let a = s4 c .args in Open (a .table .now) (a .versions) (a .session)
 can c = opened _ _ _ (asked (c .before) ∙ c .if1 .left)
 
 past4 : (c : P4) → let a = s4 c .args in
-    readKeyRefusal (a .table .now) (a .version) (a .session) (a .one) (a .two)
-    ≡ first (after 4 (readKeyTests (a .table .now) (a .version) (a .session) (a .one) (a .two)))
+    readKeyRefusal (a .table .now) (a .versions) (a .session) (a .key1) (a .key2)
+    ≡ first (after 4 (readKeyTests (a .table .now) (a .versions) (a .session) (a .key1) (a .key2)))
 unfolding readKeyRefusal sessionRefusal
 past4 c = pass (sessionTests _ _ _) _ tt (asked (c .before) ∙ c .if1 .left)
 
 -- the search found the key's slot
-found : (c : tie.After-key-slot) → let a = s4 (c .before) .args in c .key-slot .result ≡ keySlot (a .table .now) (a .one) (a .two)
-found c = let f = s4 (c .before) .fits in rw (plain _ (f .one), plain _ (f .two)) at (c .key-slot .ensures)
+found : (c : tie.After-key-slot) → let a = s4 (c .before) .args in c .key-slot .result ≡ keySlot (a .table .now) (a .key1) (a .key2)
+found c = let f = s4 (c .before) .fits in rw (plain _ (f .key1), plain _ (f .key2)) at (c .key-slot .ensures)
 
 is1-to-4 : tie.Need-returns
 unfolding readKeyRefusal readKeyAnswer sessionRefusal
@@ -51,7 +51,7 @@ absent c =
     let k = c .before in
     let p = k .before in
     let a = s4 p .args in
-    let e : keyed (a .table .now) (a .one) (a .two) ≡ empty = slotAt-past _ _ (can p .table) (rw (found k) at (c .if2 .taken)) in
+    let e : keyed (a .table .now) (a .key1) (a .key2) ≡ empty = slotAt-past _ _ (can p .table) (rw (found k) at (c .if2 .taken)) in
     record { answer = unless-done Refused (past4 p ∙ skip _ _ (rw e (ap not (empty-formed _))) ∙ done) (rw e (sym (shown-empty _))) }
 
 shows : tie.Need-returns-3

@@ -31,14 +31,14 @@ s5 c = s4 (c .before)
 abbrev Past : ℕ → tie.Start → Type 0
 Past n s =
     let a = s .args in
-    readSlotRefusal (a .table .now) (a .version) (a .session) (a .slot)
-    ≡ first (after n (readSlotTests (a .table .now) (a .version) (a .session) (a .slot)))
+    readSlotRefusal (a .table .now) (a .versions) (a .session) (a .slot)
+    ≡ first (after n (readSlotTests (a .table .now) (a .versions) (a .session) (a .slot)))
 
 -- the first four tests, asked at once
-asked : (c : tie.After-session-refusal) → let a = c .before .args in sessionRefusal (a .table .now) (a .version) (a .session) ≡ c .session-refusal .result
+asked : (c : tie.After-session-refusal) → let a = c .before .args in sessionRefusal (a .table .now) (a .versions) (a .session) ≡ c .session-refusal .result
 asked c = sym (rw (plain _ (c .before .fits .session)) at (c .session-refusal .ensures))
 
-can : (c : P4) → let a = s4 c .args in Open (a .table .now) (a .version) (a .session)
+can : (c : P4) → let a = s4 c .args in Open (a .table .now) (a .versions) (a .session)
 can c = opened _ _ _ (asked (c .before) ∙ c .if1 .left)
 
 past4 : (c : P4) → Past 4 (s4 c)

@@ -28,11 +28,11 @@ use Rattle.reads.proofs.roll_up.Statement.{statement}
 use Rattle.reads.proofs.roll_up.Tie as tie
 
 abbrev Inv-loop : tie.InvT-loop
-Inv-loop table version session one refusal slots n₀ k₀ n k =
-    (k ≤ slots) × (n ≡ tally (toZ w64 one) (seen table (toZ w64 session) k)) × ((j : ℕ) → j < k → broken (slotAt table j) version ≡ false)
+Inv-loop table versions session key1 refusal slots n₀ k₀ n k =
+    (k ≤ slots) × (n ≡ tally (toZ w64 key1) (seen table (toZ w64 session) k)) × ((j : ℕ) → j < k → broken (slotAt table j) versions ≡ false)
 
 abbrev μ-loop : tie.MeasureT-loop
-μ-loop table version session one refusal slots n₀ k₀ n k = slots - k
+μ-loop table versions session key1 refusal slots n₀ k₀ n k = slots - k
 
 -- the place past refusal 4, and the start from it
 abbrev P4 : Type 0
@@ -45,13 +45,13 @@ s4 c = c .before .before
 abbrev Past : ℕ → tie.Start Inv-loop μ-loop → Type 0
 Past n s =
     let a = s .args in
-    rollUpRefusal (a .table .now) (a .version) (a .session) ≡ first (after n (rollUpTests (a .table .now) (a .version) (a .session)))
+    rollUpRefusal (a .table .now) (a .versions) (a .session) ≡ first (after n (rollUpTests (a .table .now) (a .versions) (a .session)))
 
 -- the first four tests, asked at once
-asked : (c : tie.After-session-refusal Inv-loop μ-loop) → let a = c .before .args in sessionRefusal (a .table .now) (a .version) (a .session) ≡ c .session-refusal .result
+asked : (c : tie.After-session-refusal Inv-loop μ-loop) → let a = c .before .args in sessionRefusal (a .table .now) (a .versions) (a .session) ≡ c .session-refusal .result
 asked c = sym (rw (plain _ (c .before .fits .session)) at (c .session-refusal .ensures))
 
-can : (c : P4) → let a = s4 c .args in Open (a .table .now) (a .version) (a .session)
+can : (c : P4) → let a = s4 c .args in Open (a .table .now) (a .versions) (a .session)
 can c = opened _ _ _ (asked (c .before) ∙ c .if1 .left)
 
 past4 : (c : P4) → Past 4 (s4 c)
@@ -60,7 +60,7 @@ past4 c = pass (sessionTests _ _ _) _ tt (asked (c .before) ∙ c .if1 .left)
 
 -- the slot at k was tested
 tested : (c : tie.After-well-formed Inv-loop μ-loop) → let l = c .before .before .before in
-    not (c .well-formed .result) ≡ broken (slotAt (s4 (l .before) .args .table .now) (l .loop .k)) (s4 (l .before) .args .version)
+    not (c .well-formed .result) ≡ broken (slotAt (s4 (l .before) .args .table .now) (l .loop .k)) (s4 (l .before) .args .versions)
 tested c = ap not (rw (c .before .slot-at .ensures) at (c .well-formed .ensures))
 
 is1-to-4 : tie.Need-returns Inv-loop μ-loop
@@ -92,19 +92,19 @@ again c =
     let a = s4 (l .before) .args in (
       omega arith,
       rw (add-one (l .loop .k)) (rw (x .slot-at .ensures, l .loop .inv .1) at (c .tally-slot .ensures)),
-      below-next {p = λ j. broken (slotAt (a .table .now) j) (a .version)} (l .loop .inv .2) (sym (tested (e .before)) ∙ e .if2 .left),
+      below-next {p = λ j. broken (slotAt (a .table .now) j) (a .versions)} (l .loop .inv .2) (sym (tested (e .before)) ∙ e .if2 .left),
     )
 
 -- past the last slot the tally is that of all
-whole : (c : tie.After-loop Inv-loop μ-loop) → let a = s4 (c .before .before) .args in c .before .loop .tally ≡ tally (a .one) (seen (a .table .now) (a .session) (slots (a .table .now)))
+whole : (c : tie.After-loop Inv-loop μ-loop) → let a = s4 (c .before .before) .args in c .before .loop .tally ≡ tally (a .key1) (seen (a .table .now) (a .session) (slots (a .table .now)))
 whole c =
     let l = c .before in
     let s = s4 (l .before) in
     let e : l .loop .k ≡ slots (s .args .table .now) = omega arith in
-    rw (plain _ (s .fits .one), plain _ (s .fits .session), e) at (l .loop .inv .1)
+    rw (plain _ (s .fits .key1), plain _ (s .fits .session), e) at (l .loop .inv .1)
 
 -- and each slot is well formed: those that were passed, and past the end the empty one
-formed : (c : tie.After-loop Inv-loop μ-loop) (j : ℕ) → let a = s4 (c .before .before) .args in wellFormed (slotAt (a .table .now) j) (a .version) ≡ true
+formed : (c : tie.After-loop Inv-loop μ-loop) (j : ℕ) → let a = s4 (c .before .before) .args in wellFormed (slotAt (a .table .now) j) (a .versions) ≡ true
 formed c j =
     let l = c .before in
     by-test (ltb j (l .loop .k)) (λ y. not-no (l .loop .inv .2 j (ltb-true _ _ y)))
@@ -117,8 +117,8 @@ rolls : tie.Need-returns-3 Inv-loop μ-loop
 unfolding rollUpAnswer
 rolls c =
     let n = c .before .before .loop .tally in
-    let first-fits : SFits w64 (n .first) = search needs in
-    let second-fits : SFits w64 (n .second) = search needs in
+    let first-fits : SFits w64 (n .total1) = search needs in
+    let second-fits : SFits w64 (n .total2) = search needs in
     record { answer = unless-done Refused (past6 (c .before) ∙ done) (rw (plain _ first-fits, plain _ second-fits) (ap sums (whole (c .before)))) }
 
 pub roll-up-spec : {M : Type 1} → statement M

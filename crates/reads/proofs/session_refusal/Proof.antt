@@ -9,8 +9,8 @@ use borrow.Author.Needs.{needs}
 use Rattle.laws.specs.Tests.{any, none-at}
 use Rattle.laws.specs.Bits.{plain}
 use Rattle.laws.specs.First.{first, after, skip, hit, done}
-use Rattle.version.specs.Record.{badRecord}
-use Rattle.version.specs.Sessions.{unborn, expired}
+use Rattle.versions.specs.Record.{badRecord}
+use Rattle.versions.specs.Sessions.{unborn, expired}
 use Rattle.reads.specs.Session.{sessionTests, sessionRefusal}
 use Rattle.reads.proofs.session_refusal.Statement.{statement}
 use Rattle.reads.proofs.session_refusal.Tie as tie
@@ -35,14 +35,14 @@ start c = s2 (c .before .before)
 abbrev Past : ℕ → tie.Start → Type 0
 Past n s =
     let a = s .args in
-    sessionRefusal (a .table .now) (a .version) (a .session) ≡ first (after n (sessionTests (a .table .now) (a .version) (a .session)))
+    sessionRefusal (a .table .now) (a .versions) (a .session) ≡ first (after n (sessionTests (a .table .now) (a .versions) (a .session)))
 
 -- neither of the tests of 1 and 2 holds
 neither : (c : P2) (k : ℕ) → getD (c .before .before .bad-table .result ∷ c .before .bad-record .result ∷ []) k false ≡ false
 unfolding any
 neither c k = none-at (c .before .before .bad-table .result ∷ c .before .bad-record .result ∷ []) k (c .if1 .left)
 
-known : (c : P2) → badRecord (s2 c .args .version) ≡ false
+known : (c : P2) → badRecord (s2 c .args .versions) ≡ false
 known c = sym (c .before .bad-record .ensures) ∙ neither c 1
 
 past2 : (c : P2) → Past 2 (s2 c)
@@ -50,10 +50,10 @@ unfolding sessionRefusal
 past2 c = skip _ _ (sym (c .before .before .bad-table .ensures) ∙ neither c 0) ∙ skip _ _ (known c)
 
 -- the two answers on the session
-is-unborn : (c : Asked) → let a = start c .args in unborn (a .version) (a .session) ≡ c .before .is-unborn .result
+is-unborn : (c : Asked) → let a = start c .args in unborn (a .versions) (a .session) ≡ c .before .is-unborn .result
 is-unborn c = sym (rw (plain _ (start c .fits .session)) at (c .before .is-unborn .ensures))
 
-is-expired : (c : Asked) → let a = start c .args in expired (a .version) (a .session) ≡ c .is-expired .result
+is-expired : (c : Asked) → let a = start c .args in expired (a .versions) (a .session) ≡ c .is-expired .result
 is-expired c = sym (rw (plain _ (start c .fits .session)) at (c .is-expired .ensures))
 
 past3 : (c : P3) → Past 3 (start (c .before))

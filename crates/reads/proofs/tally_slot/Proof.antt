@@ -22,10 +22,10 @@ key1-fits : (c : tie.After-struct-told) → SFits w64 (c .before .args .x .key1)
 key1-fits c = search needs
 
 other : tie.Need-returns
-other c = let b = c .before in sym (tallied-other _ _ _ _ (isnt _ _ (key1-fits b) (b .before .fits .one) (c .if1 .taken)))
+other c = let b = c .before in sym (tallied-other _ _ _ _ (isnt _ _ (key1-fits b) (b .before .fits .key1) (c .if1 .taken)))
 
-own : (c : tie.Else1) → let a = c .before .before .args in eqZ (a .x .key1) (a .one) ≡ true
-own c = let b = c .before in is _ _ (key1-fits b) (b .before .fits .one) (c .if1 .left)
+own : (c : tie.Else1) → let a = c .before .before .args in eqZ (a .x .key1) (a .key1) ≡ true
+own c = let b = c .before in is _ _ (key1-fits b) (b .before .fits .key1) (c .if1 .left)
 
 seen : (c : tie.After-show) → let a = c .before .before .before .args in c .show .result ≡ shown (a .session) (a .x)
 seen c = rw (plain _ (c .before .before .before .fits .session)) at (c .show .ensures)
@@ -38,14 +38,14 @@ abbrev start : tie.After-known-told → tie.Start
 start c = shows c .before .before .before
 
 abbrev first : tie.After-known-told → ℤ
-first c = c .before .first .given .0 .1 .1 .0
+first c = c .before .total1 .given .0 .1 .1 .0
 
 abbrev second : tie.After-known-told → ℤ
-second c = c .before .first .given .0 .1 .1 .1 .0
+second c = c .before .total1 .given .0 .1 .1 .1 .0
 
 row : (c : tie.After-known-told) → let a = start c .args in
-    shown (a .session) (a .x) ≡ Row (c .before .first .given .0 .0) (c .before .first .given .0 .1 .0) (first c) (second c)
-row c = sym (seen (shows c)) ∙ c .before .first .given .1
+    shown (a .session) (a .x) ≡ Row (c .before .total1 .given .0 .0) (c .before .total1 .given .0 .1 .0) (first c) (second c)
+row c = sym (seen (shows c)) ∙ c .before .total1 .given .1
 
 first-fits : (c : tie.After-known-told) → SFits w64 (first c)
 first-fits c = search needs
@@ -63,33 +63,33 @@ after c = sums-fit (counted-bounded _ (rw (row c) at (start c .pre .0)) (start c
 add-first : tie.Need-add-t12
 add-first c =
     let b = c .before .before .before in
-    simp (plain _ (before b .first), plain _ (first-fits b)) (after b .first)
+    simp (plain _ (before b .total1), plain _ (first-fits b)) (after b .total1)
 
 add-second : tie.Need-add-t13
 add-second c =
     let b = c .before .before .before .before .before in
-    simp (plain _ (before b .second), plain _ (second-fits b)) (after b .second)
+    simp (plain _ (before b .total2), plain _ (second-fits b)) (after b .total2)
 
 count : tie.Need-returns-2
 count c =
     let b = c .before .before .before .before .before in
     let a = start b .args in
-    rw (tallied-own (a .session) (a .one) (a .x) (a .tally) (own (shows b .before)) (row b))
+    rw (tallied-own (a .session) (a .key1) (a .x) (a .tally) (own (shows b .before)) (row b))
     (simp (
-      plain _ (before b .first),
-      plain _ (before b .second),
+      plain _ (before b .total1),
+      plain _ (before b .total2),
       plain _ (first-fits b),
       plain _ (second-fits b),
-      plain _ (after b .first),
-      plain _ (after b .second),
+      plain _ (after b .total1),
+      plain _ (after b .total2),
       add-one,
     ))
 
 none : tie.Need-returns-3
-none c = let a = c .before .before .before .before .before .args in ap (λ r. tallied (a .one) r (a .tally)) (sym (c .enum-told .given .1) ∙ seen (c .before .before))
+none c = let a = c .before .before .before .before .before .args in ap (λ r. tallied (a .key1) r (a .tally)) (sym (c .enum-told .given .1) ∙ seen (c .before .before))
 
 refused : tie.Need-returns-4
-refused c = let a = c .before .before .before .before .before .args in ap (λ r. tallied (a .one) r (a .tally)) (sym (c .enum-told2 .given .1) ∙ seen (c .before .before))
+refused c = let a = c .before .before .before .before .before .args in ap (λ r. tallied (a .key1) r (a .tally)) (sym (c .enum-told2 .given .1) ∙ seen (c .before .before))
 
 pub tally-slot-spec : {M : Type 1} → statement M
 tally-slot-spec =

@@ -7,7 +7,7 @@ use Rattle.table.proofs.is_unlawful.Tie as tie
 
 returns : tie.Need-returns
 unfolding unlawful
-returns c = simp (c .before .is-lawful .ensures, c .is-lawful2 .ensures, plain _ (c .before .before .fits .first), plain _ (c .before .before .fits .second))
+returns c = simp (c .before .is-lawful .ensures, c .is-lawful2 .ensures, plain _ (c .before .before .fits .total1), plain _ (c .before .before .fits .total2))
 
 pub is-unlawful-spec : {M : Type 1} → statement M
 is-unlawful-spec = tie.close (tie.spec (λ c κs. search needs) (λ c κs. search needs) returns)

@@ -1,0 +1,21 @@
+-- `blocks_loads::header_fields::header_wrong` meets its contract: its four tests, each of words that were read. Assumes nothing.
+use native.Mathlib.Omega.{arith}
+use mir.Syntax.{w64}
+use mir.ValLaws.{toZ-pos}
+use borrow.Author.Needs.{needs}
+use Rattle.laws.specs.Tests.{any}
+use Rattle.blocks_loads.specs.HeaderFields.{headerWrong}
+use Rattle.blocks_loads.proofs.header_fields.header_wrong.Statement.{statement}
+use Rattle.blocks_loads.proofs.header_fields.header_wrong.Tie as tie
+
+returns : tie.Need-returns
+unfolding headerWrong any
+returns c =
+    let current = c .before in
+    let slots = current .before in
+    rw (toZ-pos w64 (current .word-at3 .result) (omega arith), current .word-at3 .ensures, slots .word-at2 .ensures, slots .before .word-at .ensures, c .is-nonzero .ensures)
+
+pub header-wrong-spec : {M : Type 1} → statement M
+header-wrong-spec =
+    tie.close
+    (tie.spec (λ c κs. search needs) (λ c κs. search needs) (λ c κs. search needs) (λ c. search needs) (λ c κs. search needs) returns)

@@ -1,0 +1,24 @@
+-- `blocks_loads::loaded_slots::load_slot` meets its contract: a slot beyond the table is not written. Assumes nothing.
+use Prim.Native.Nat.{_+_}
+use borrow.Author.Needs.{needs}
+use borrow.Author.Tests.{lt-ltb, le-ltb}
+use Rattle.table.specs.Slots.{slots}
+use Rattle.blocks_loads.specs.LoadedSlots.{firstSlot}
+use Rattle.blocks_loads.proofs.loaded_slots.load_slot.Statement.{statement}
+use Rattle.blocks_loads.proofs.loaded_slots.load_slot.Tie as tie
+
+beyond : tie.Need-returns
+beyond c =
+    let a = c .before .before .args in
+    rw (le-ltb (firstSlot (a .number) + a .j) (slots (a .table .now)) (c .if1 .taken))
+
+written : tie.Need-returns-2
+written c =
+    let read = c .before .before .before in
+    rw (lt-ltb _ _ (read .before .if1 .left), c .before .put-slot .ensures, read .slot-of .ensures)
+
+pub load-slot-spec : {M : Type 1} → statement M
+load-slot-spec =
+    tie.close
+    (tie.spec (λ c. search needs) (λ c. search needs) (λ c. search needs) beyond
+    (λ c κs. search needs) (λ c κs. search needs) (λ c. search needs) written)

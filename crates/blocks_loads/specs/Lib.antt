@@ -1,0 +1,4 @@
+pub mod HeaderFields
+pub mod LoadedSlots
+pub mod AllowedLaws
+pub mod LoadedLaws

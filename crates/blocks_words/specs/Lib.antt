@@ -1,0 +1,7 @@
+pub mod Words
+pub mod Longs
+pub mod Groups
+pub mod WordLaws
+pub mod FollowLaws
+pub mod LongLaws
+pub mod AlteredWord

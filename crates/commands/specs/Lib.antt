@@ -1,8 +1,0 @@
-pub mod Numerals
-pub mod Commands
-pub mod ReadDigits
-pub mod NumeralLaws
-pub mod FieldLaws
-pub mod CountLaws
-pub mod CommandLaws
-pub mod LongLaws

@@ -1,0 +1,176 @@
+-- Databases in another order: a permutation of rows holds the same keys, and where no key stands twice it finds the same rows,
+-- rolls up to the same sums, and loses the same row. Each goes by the permutation; a step on one or two rows goes by
+-- the tests on them alone. And the roll-up of a database is what the library's tally of its rows comes to. Assumes nothing.
+use mathlib.Core.Path.{_≡_, refl, sym, ap, ap₂, _∙_}
+use mathlib.Core.Bool.{Bool, true, false, cond, not, _&&_, _||_, or-assoc, or-comm}
+use mathlib.Core.Logic.{∥∥₁-elim}
+use mathlib.Core.List.{[], _∷_, _++_, map, Perm, List·Permᴰ, Permᴰ·refl}
+use mathlib.Core.List as L
+use Prim.Native.Nat.{suc}
+use native.Mathlib.Nat.{ℕ-set}
+use lib.IntN.{ℤ, _+ℤ_, +ℤ-comm, +ℤ-assoc, ℤ-set}
+use lib.ListN.{length}
+use Rattle.laws.specs.Tests.{by-test, clash}
+use Rattle.laws.specs.Repeats.{by-perm, permᴰ-length}
+use Rattle.laws.specs.Order.{eqZ, eqZ-true, eqZ-same}
+use Rattle.reads.specs.declared.Seen.{Seen}
+use Rattle.reads.specs.declared.Seen.the-variants as seen
+use Rattle.reads.specs.declared.Rolled.the-variants.{Sums}
+use Rattle.reads.specs.RollUp.{Tally, tally, counted, sums}
+use Rattle.history.specs.Databases.{Row, Database, isKey, holds, NoRepeat, without, found, asSeen, region, sumOf, rolledUp, beside}
+
+-- ---- tests
+pub neither : (a b : Bool) → a || b ≡ false → (a ≡ false) × (b ≡ false)
+neither true b e = clash refl e
+neither false b e = (refl, e)
+
+or-swap : (a b c : Bool) → a || (b || c) ≡ b || (a || c)
+or-swap a b c = sym (or-assoc a b c) ∙ rw (or-comm a b) (or-assoc b a c)
+
+pub and-both : (a b : Bool) → a && b ≡ true → (a ≡ true) × (b ≡ true)
+and-both true b e = (refl, e)
+and-both false b e = clash e refl
+
+-- the key of a row
+pub key-of : (p q : ℤ) (r : Row) → isKey p q r ≡ true → (r .key1 ≡ p) × (r .key2 ≡ q)
+key-of p q r h =
+    let x = and-both (eqZ (r .key1) p) (eqZ (r .key2) q) h in
+    (eqZ-true (r .key1) p (x .0), eqZ-true (r .key2) q (x .1))
+
+pub is-key : (p q : ℤ) (r : Row) → r .key1 ≡ p → r .key2 ≡ q → isKey p q r ≡ true
+is-key p q r x y = ap₂ _&&_ (eqZ-same {a = r .key1} {b = p} x) (eqZ-same {a = r .key2} {b = q} y)
+
+-- two rows with one key: each has the other's
+pub same-key : (p q : ℤ) (a b : Row) → isKey p q a ≡ true → isKey p q b ≡ true → isKey (a .key1) (a .key2) b ≡ true
+same-key p q a b x y =
+    let u = key-of p q a x in
+    let w = key-of p q b y in
+    is-key (a .key1) (a .key2) b (w .0 ∙ sym (u .0)) (w .1 ∙ sym (u .1))
+
+-- ---- the same keys
+pub holds-perm : (p q : ℤ) {d e : Database} → List·Permᴰ d e → holds p q d ≡ holds p q e
+holds-perm p q =
+    by-perm (λ d e. holds p q d ≡ holds p q e) refl (λ r d e. ap (λ b. isKey p q r || b))
+    (λ a b d. or-swap (isKey p q a) (isKey p q b) (holds p q d)) (λ d e f. _∙_)
+
+pub holds-append : (p q : ℤ) (d e : Database) → holds p q (d ++ e) ≡ holds p q d || holds p q e
+holds-append p q [] e = refl
+holds-append p q (r ∷ d) e = rw (holds-append p q d e, or-assoc)
+
+-- ---- the row of a key is gone
+pub without-absent : (p q : ℤ) (d : Database) → holds p q d ≡ false → without p q d ≡ d
+without-absent p q [] h = refl
+without-absent p q (r ∷ d) h =
+    let n = neither (isKey p q r) (holds p q d) h in
+    ap₂ (λ b l. cond b l (r ∷ l)) (n .0) (without-absent p q d (n .1))
+
+-- ---- what is left where a test on each row drops some, in another order
+module _ (drops : Row → Bool) (left : Database → Database) (none : left [] ≡ []) (row : (r : Row) (d : Database) → left (r ∷ d) ≡ cond (drops r) (left d) (r ∷ left d)) where
+  left-head : (r : Row) (d e : Database) → List·Permᴰ (left d) (left e) → List·Permᴰ (left (r ∷ d)) (left (r ∷ e))
+  left-head r d e x = rw (row r d, row r e) (by-test (drops r) (λ y. rw y x) (λ n. rw n (L.List·Permᴰ·cons refl x)))
+
+  left-swap : (a b : Row) (d : Database) → List·Permᴰ (left (a ∷ b ∷ d)) (left (b ∷ a ∷ d))
+  left-swap a b d =
+      rw (row a (b ∷ d), row b d, row b (a ∷ d), row a d)
+      (by-test (drops a)
+      (λ y. rw y (Permᴰ·refl _))
+      (λ n. rw n (by-test (drops b) (λ y. rw y (Permᴰ·refl _)) (λ m. rw m (L.List·Permᴰ·swap refl refl)))))
+
+  pub left-perm : {d e : Database} → List·Permᴰ d e → List·Permᴰ (left d) (left e)
+  left-perm = by-perm (λ d e. List·Permᴰ (left d) (left e)) (rw none L.List·Permᴰ·nil) left-head left-swap (λ d e f. L.List·Permᴰ·trans)
+
+pub without-perm : (p q : ℤ) {d e : Database} → List·Permᴰ d e → List·Permᴰ (without p q d) (without p q e)
+without-perm p q = left-perm (isKey p q) (without p q) refl (λ r d. refl)
+
+pub beside-perm : (a : Database) {d e : Database} → List·Permᴰ d e → List·Permᴰ (beside a d) (beside a e)
+beside-perm a = left-perm (λ r. holds (r .key1) (r .key2) a) (beside a) refl (λ r d. refl)
+
+-- ---- no key twice
+-- the key of a row that is no other's is not the other's either
+apart : (a b : Row) → isKey (a .key1) (a .key2) b ≡ false → isKey (b .key1) (b .key2) a ≡ false
+apart a b n =
+    by-test (isKey (b .key1) (b .key2) a)
+    (λ y. clash (same-key (b .key1) (b .key2) a b y (is-key (b .key1) (b .key2) b refl refl)) n) (λ m. m)
+
+pub norepeat-perm : {d e : Database} → List·Permᴰ d e → NoRepeat d → NoRepeat e
+norepeat-perm L.List·Permᴰ·nil n = n
+norepeat-perm (L.List·Permᴰ·cons {a = a} {l₂ = e} same rest) n =
+    rw (← same) (sym (holds-perm _ _ rest) ∙ n .0, norepeat-perm rest (n .1))
+norepeat-perm (L.List·Permᴰ·swap {a = a} {b = b} {l = l} e f) n =
+    let m = neither _ _ (n .0) in
+    rw (← e, ← f) (ap₂ _||_ (apart a b (m .0)) (n .1 .0), (m .1, n .1 .1))
+norepeat-perm (L.List·Permᴰ·trans x y) n = norepeat-perm y (norepeat-perm x n)
+
+-- ---- the same row is found
+pub found-absent : (p q : ℤ) (d : Database) → holds p q d ≡ false → found p q d ≡ seen.NoRow
+found-absent p q [] h = refl
+found-absent p q (r ∷ d) h =
+    let n = neither (isKey p q r) (holds p q d) h in
+    ap₂ (λ b x. cond b (asSeen r) x) (n .0) (found-absent p q d (n .1))
+
+-- a key is held exactly when a row of it is found
+abbrev pub shows : Seen → Bool
+shows (seen.Row key1 key2 total1 total2) = true
+shows seen.NoRow = false
+shows (seen.Refused n) = false
+
+pub held-found : (p q : ℤ) (d : Database) → holds p q d ≡ shows (found p q d)
+held-found p q [] = refl
+held-found p q (r ∷ d) = by-test (isKey p q r) (λ y. rw y refl) (λ n. rw n (held-found p q d))
+
+-- two rows in the other order, where not both have the key
+found-swap : (t u : Bool) (a b : Row) (x : Seen) → (t ≡ true → u ≡ true → ⊥)
+    → cond t (asSeen a) (cond u (asSeen b) x) ≡ cond u (asSeen b) (cond t (asSeen a) x)
+found-swap true true a b x n = absurd (n refl refl)
+found-swap true false a b x n = refl
+found-swap false u a b x n = refl
+
+pub found-perm : (p q : ℤ) {d e : Database} → List·Permᴰ d e → NoRepeat d → found p q d ≡ found p q e
+found-perm p q L.List·Permᴰ·nil n = refl
+found-perm p q (L.List·Permᴰ·cons same rest) n = ap₂ (λ r x. cond (isKey p q r) (asSeen r) x) same (found-perm p q rest (n .1))
+found-perm p q (L.List·Permᴰ·swap {a = a} {b = b} {l = l} e f) n =
+    rw (← e, ← f) (found-swap (isKey p q a) (isKey p q b) a b (found p q l) (λ x y. clash (same-key p q a b x y) (neither _ _ (n .0) .0)))
+found-perm p q (L.List·Permᴰ·trans x y) n = found-perm p q x n ∙ found-perm p q y (norepeat-perm x n)
+
+-- ---- the same sums
+region-perm : (key1 : ℤ) {d e : Database} → List·Permᴰ d e → List·Permᴰ (region key1 d) (region key1 e)
+region-perm key1 = left-perm (λ r. not (eqZ (r .key1) key1)) (region key1) refl (λ r d. other-way (eqZ (r .key1) key1) (r ∷ region key1 d) (region key1 d))
+  where
+    other-way : (b : Bool) (x y : Database) → cond b x y ≡ cond (not b) y x
+    other-way true x y = refl
+    other-way false x y = refl
+
+sum-perm : (total : Row → ℤ) {d e : Database} → List·Permᴰ d e → sumOf total d ≡ sumOf total e
+sum-perm total =
+    by-perm (λ d e. sumOf total d ≡ sumOf total e) refl (λ r d e. ap (λ z. total r +ℤ z)) (λ a b d. swap (total a) (total b) (sumOf total d)) (λ d e f. _∙_)
+  where
+    swap : (x y z : ℤ) → x +ℤ (y +ℤ z) ≡ y +ℤ (x +ℤ z)
+    swap x y z = sym (+ℤ-assoc x y z) ∙ ap (λ s. s +ℤ z) (+ℤ-comm x y) ∙ +ℤ-assoc y x z
+
+-- number by number, since a permutation that is only said to be there may show equal numbers
+pub rolled-perm : (key1 : ℤ) {d e : Database} → Perm d e → rolledUp key1 d ≡ rolledUp key1 e
+rolled-perm key1 {d} {e} p i = Sums (rows i) (sum (λ r. r .total1) i) (sum (λ r. r .total2) i)
+  where
+    rows : length (region key1 d) ≡ length (region key1 e)
+    rows = ∥∥₁-elim p (ℕ-set _ _) (λ q. permᴰ-length (region-perm key1 q))
+
+    sum : (total : Row → ℤ) → sumOf total (region key1 d) ≡ sumOf total (region key1 e)
+    sum total = ∥∥₁-elim p (ℤ-set _ _) (λ q. sum-perm total (region-perm key1 q))
+
+-- ---- the library's tally of a database
+abbrev comeTo : Database → Tally
+comeTo d = record { count = length d; total1 = sumOf (λ r. r .total1) d; total2 = sumOf (λ r. r .total2) d }
+
+tally-counts : (key1 : ℤ) (d : Database) → tally key1 (map asSeen d) ≡ comeTo (region key1 d)
+tally-counts key1 [] = refl
+tally-counts key1 (r ∷ d) = rw (tally-counts key1 d) (by-test (eqZ (r .key1) key1) (λ y. rw y (one-more (region key1 d))) (λ n. rw n))
+  where
+    one-more : (e : Database) → counted (r .total1) (r .total2) (comeTo e) ≡ comeTo (r ∷ e)
+    one-more e i = record {
+      count = suc (length e);
+      total1 = +ℤ-comm (sumOf (λ x. x .total1) e) (r .total1) i;
+      total2 = +ℤ-comm (sumOf (λ x. x .total2) e) (r .total2) i;
+    }
+
+pub tally-region : (key1 : ℤ) (d : Database) → sums (tally key1 (map asSeen d)) ≡ rolledUp key1 d
+tally-region key1 d = ap sums (tally-counts key1 d)

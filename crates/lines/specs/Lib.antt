@@ -1,4 +1,0 @@
-pub mod Sessions
-pub mod Standing
-pub mod SessionLaws
-pub mod StandingLaws

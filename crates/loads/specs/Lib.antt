@@ -1,4 +1,0 @@
-pub mod Headers
-pub mod Slots
-pub mod AllowedLaws
-pub mod LoadedLaws

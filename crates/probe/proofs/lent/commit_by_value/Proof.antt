@@ -1,0 +1,12 @@
+-- `probe::lent::commit_by_value` does by value what `commit` does on a lent record, by the walk of `Lending`. Assumes nothing.
+use mathlib.Core.Path.{refl}
+use Rattle.versions.specs.Runs.{CommitContract}
+use Rattle.versions.proofs.commit.Met.{met}
+use Rattle.probe.proofs.Lending.{lending-meets}
+use Rattle.probe.proofs.lent.commit_by_value.Key.{name}
+use Rattle.probe.proofs.lent.commit_by_value.Statement.{statement}
+use Rattle.probe.proofs.lent.commit_by_value.Code as code
+
+pub commit-by-value-spec : {M : Type 1} → statement M
+unfolding code.routine
+commit-by-value-spec 𝓤 H 𝓜 𝓖 𝓡 = lending-meets CommitContract 𝓤 H 𝓜 𝓖 𝓡 code.env name _ _ refl (code.unfolded 𝓤 H 𝓜 𝓡) (met 𝓤 H 𝓜 𝓖 𝓡)

@@ -1,0 +1,18 @@
+-- `steps_commands::read_numbered` meets its contract: the letters are tested in the definition's order, one to a line.
+-- Assumes nothing.
+use borrow.Author.Needs.{needs}
+use borrow.Author.Tests.{eq-eqb, ne-eqb}
+use Rattle.steps_commands.specs.CommandLaws.{numberedOf}
+use Rattle.steps_commands.proofs.read_numbered.Statement.{statement}
+use Rattle.steps_commands.proofs.read_numbered.Tie as tie
+
+pub read-numbered-spec : {M : Type 1} → statement M
+unfolding numberedOf
+read-numbered-spec =
+    tie.close
+    (tie.spec
+    (λ c κs. search needs) (λ c κs. search needs) (λ c. search (eq-eqb, c .insert-of .ensures, c .before .read-four .ensures))
+    (λ c κs. search needs) (λ c κs. search needs) (λ c. search (eq-eqb, ne-eqb, c .update-of .ensures, c .before .read-four2 .ensures))
+    (λ c κs. search needs) (λ c κs. search needs) (λ c. search (eq-eqb, ne-eqb, c .delete-of .ensures, c .before .read-two .ensures))
+    (λ c κs. search needs) (λ c κs. search needs) (λ c. search (eq-eqb, ne-eqb, c .read-of .ensures, c .before .read-three .ensures))
+    (λ c. search ne-eqb))

@@ -1,0 +1,33 @@
+-- `steps_commands::read_two` meets its contract: the first number, and what follows its space. Assumes nothing.
+use mathlib.Core.Path.{_≡_}
+use borrow.Author.Needs.{needs}
+use borrow.Rule.Slice.PartAt.{part-to-end}
+use Rattle.steps_commands.specs.declared.First.the-variants.{Number}
+use Rattle.steps_commands.specs.FieldLaws.{firstOf, first-within, one-number}
+use Rattle.steps_commands.specs.CountLaws.{two-first}
+use Rattle.steps_commands.proofs.read_two.Statement.{statement}
+use Rattle.steps_commands.proofs.read_two.Tie as tie
+
+bad : tie.Need-returns
+bad c = search (two-first, ← c .before .before .read-first .ensures, c .enum-told .given .1)
+
+first : (c : tie.After-known-told) → let z = c .before .one .given .0 in firstOf (c .before .before .before .before .before .args .line .now) ≡ Number (z .0) (z .1 .0)
+first c = cc
+
+start : tie.Need-sub-read-number
+start c = first-within _ (first c)
+
+not-others : tie.Need-returns-2
+not-others c =
+    let n = c .before .before in
+    search (two-first, first (n .before .before), ← one-number, ← (rw part-to-end at (n .read-number .ensures)), c .enum-told2 .given .1)
+
+are : tie.Need-returns-3
+are c =
+    let n = c .before .before .before in
+    search (needs, two-first, first (n .before .before), ← one-number, ← (rw part-to-end at (n .read-number .ensures)), c .before .two .given .1)
+
+pub read-two-spec : {M : Type 1} → statement M
+read-two-spec =
+    tie.close
+    (tie.spec (λ c κs. search needs) (λ c. search needs) (λ c. search needs) bad start start (λ c. search needs) (λ c κs. search needs) (λ c. search needs) (λ c. search needs) not-others are)

@@ -1,0 +1,4 @@
+pub mod LineSessions
+pub mod Standing
+pub mod LineSessionLaws
+pub mod StandingLaws

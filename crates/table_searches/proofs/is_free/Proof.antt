@@ -1,0 +1,12 @@
+-- `table_searches::is_free` meets its contract. Assumes nothing.
+use borrow.Author.Needs.{needs}
+use Rattle.table_searches.specs.Free.{free}
+use Rattle.table_searches.proofs.is_free.Statement.{statement}
+use Rattle.table_searches.proofs.is_free.Tie as tie
+
+returns : tie.Need-returns
+unfolding free
+returns c = simp (c .before .all-zeros .ensures, c .long-deleted .ensures)
+
+pub is-free-spec : {M : Type 1} → statement M
+is-free-spec = tie.close (tie.spec (λ c κs. search needs) (λ c κs. search needs) returns)

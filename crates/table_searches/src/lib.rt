@@ -1,0 +1,165 @@
+// The two searches of a table: for the key's slot, and for a free one. Each reads single words, those that tell slots apart, and
+// passes four slots at a time where none of the four can be the one; where one can, the four are looked at one by one, and so
+// are the last, fewer than four. All here are leaves for our other crates: below tests 1 and 2 they require a table and a record
+// that pass them.
+ghost use mathlib.Core.Path.{_≡_};
+ghost use mathlib.Core.Bool.{true, false};
+ghost use Prim.Native.Nat.{_+_, _≤_, _<_};
+ghost use Rattle.laws.specs.Lowest.{Lowest};
+ghost use Rattle.versions.specs.Record.{badRecord};
+ghost use Rattle.table.specs.Slots.{badTable, slots, slotAt};
+ghost use Rattle.table_searches.specs.Keys.{hasKey, keySlot};
+ghost use Rattle.table_searches.specs.KeyLaws.{Keyless, FourApart};
+ghost use Rattle.table_searches.specs.Free.{longDeleted, free, freeSlot};
+ghost use Rattle.table_searches.specs.FreeLaws.{Taken, FourLive};
+use table::Slot;
+use versions::VersionRecord;
+
+// Whether the slot at a place is used and has the key. The second key word is asked first: it tells most slots apart.
+fn has_key(table: &[i64], k: usize, key1: i64, key2: i64) -> bool
+    requires { ⌜ badTable (now table) ≡ false ⌝ }
+    requires { ⌜ k < slots (now table) ⌝ }
+    ensures { λ r. ⌜ r ≡ hasKey (slotAt (now (table .entry)) k) key1 key2 ⌝ }
+{
+    let at = k * table::SLOT_WORDS;
+    if table[at + 3] != key2 {
+        return false;
+    }
+    if table[at + 2] != key1 {
+        return false;
+    }
+    if table[at + 1] == 0 {
+        return false;
+    }
+    true
+}
+
+// Whether none of the four slots from a place on has that second key word.
+fn four_apart(table: &[i64], k: usize, key2: i64) -> bool
+    requires { ⌜ badTable (now table) ≡ false ⌝ }
+    requires { ⌜ k + 4 ≤ slots (now table) ⌝ }
+    ensures { λ r. ⌜ (r ≡ true → FourApart (now (table .entry)) k key2) ⌝ }
+{
+    let at = k * table::SLOT_WORDS;
+    (table[at + 3] != key2)
+        & (table[at + 11] != key2)
+        & (table[at + 19] != key2)
+        & (table[at + 27] != key2)
+}
+
+// The lowest slot below an end that has the key, or the end, looked for from a place on below which none has it.
+fn key_from(table: &[i64], from: usize, to: usize, key1: i64, key2: i64) -> usize
+    requires { ⌜ badTable (now table) ≡ false ⌝ }
+    requires { ⌜ to ≤ slots (now table) ⌝ }
+    requires { ⌜ Keyless (now table) from key1 key2 ⌝ }
+    ensures { λ r. ⌜ Lowest (λ k. hasKey (slotAt (now (table .entry)) k) key1 key2) to r ⌝ }
+{
+    let mut k = from;
+    while k < to {
+        if has_key(table, k, key1, key2) {
+            return k;
+        }
+        k += 1;
+    }
+    to
+}
+
+// The number of the key's slot; the number of slots where the key has none.
+pub fn key_slot(table: &[i64], key1: i64, key2: i64) -> usize
+    requires { ⌜ badTable (now table) ≡ false ⌝ }
+    ensures { λ r. ⌜ r ≡ keySlot (now (table .entry)) key1 key2 ⌝ }
+{
+    let slots = table.len() / table::SLOT_WORDS;
+    let mut k: usize = 0;
+    while k + 4 <= slots {
+        if !four_apart(table, k, key2) {
+            let found = key_from(table, k, k + 4, key1, key2);
+            if found < k + 4 {
+                return found;
+            }
+        }
+        k += 4;
+    }
+    key_from(table, k, slots, key1, key2)
+}
+
+fn long_deleted(x: Slot, versions: VersionRecord) -> bool
+    requires { ⌜ badRecord versions ≡ false ⌝ }
+    ensures { λ r. ⌜ r ≡ longDeleted x versions ⌝ }
+{
+    let run = x.run;
+    let operation = x.operation;
+    let running = versions::run_number(versions);
+    (operation == table::DELETE) & (run < running) & table::well_formed(x, versions)
+}
+
+fn is_free(x: Slot, versions: VersionRecord) -> bool
+    requires { ⌜ badRecord versions ≡ false ⌝ }
+    ensures { λ r. ⌜ r ≡ free x versions ⌝ }
+{
+    table::all_zeros(x) | long_deleted(x, versions)
+}
+
+// Whether the slot at a place is free. A live one is told by its operation word alone.
+fn free_at(table: &[i64], k: usize, versions: VersionRecord) -> bool
+    requires { ⌜ badTable (now table) ≡ false ⌝ }
+    requires { ⌜ k < slots (now table) ⌝ }
+    requires { ⌜ badRecord versions ≡ false ⌝ }
+    ensures { λ r. ⌜ r ≡ free (slotAt (now (table .entry)) k) versions ⌝ }
+{
+    if table::lives(table[k * table::SLOT_WORDS + 1]) {
+        return false;
+    }
+    is_free(table::slot_at(table, k), versions)
+}
+
+// Whether all of the four slots from a place on are live.
+fn four_live(table: &[i64], k: usize) -> bool
+    requires { ⌜ badTable (now table) ≡ false ⌝ }
+    requires { ⌜ k + 4 ≤ slots (now table) ⌝ }
+    ensures { λ r. ⌜ (r ≡ true → FourLive (now (table .entry)) k) ⌝ }
+{
+    let at = k * table::SLOT_WORDS;
+    table::lives(table[at + 1])
+        & table::lives(table[at + 9])
+        & table::lives(table[at + 17])
+        & table::lives(table[at + 25])
+}
+
+// The lowest free slot below an end, or the end, looked for from a place on below which none is free.
+fn free_from(table: &[i64], from: usize, to: usize, versions: VersionRecord) -> usize
+    requires { ⌜ badTable (now table) ≡ false ⌝ }
+    requires { ⌜ to ≤ slots (now table) ⌝ }
+    requires { ⌜ badRecord versions ≡ false ⌝ }
+    requires { ⌜ Taken (now table) from versions ⌝ }
+    ensures { λ r. ⌜ Lowest (λ k. free (slotAt (now (table .entry)) k) versions) to r ⌝ }
+{
+    let mut k = from;
+    while k < to {
+        if free_at(table, k, versions) {
+            return k;
+        }
+        k += 1;
+    }
+    to
+}
+
+// The number of the lowest free slot; the number of slots where none is free.
+pub fn free_slot(table: &[i64], versions: VersionRecord) -> usize
+    requires { ⌜ badTable (now table) ≡ false ⌝ }
+    requires { ⌜ badRecord versions ≡ false ⌝ }
+    ensures { λ r. ⌜ r ≡ freeSlot (now (table .entry)) versions ⌝ }
+{
+    let slots = table.len() / table::SLOT_WORDS;
+    let mut place: usize = 0;
+    while place + 4 <= slots {
+        if !four_live(table, place) {
+            let found = free_from(table, place, place + 4, versions);
+            if found < place + 4 {
+                return found;
+            }
+        }
+        place += 4;
+    }
+    free_from(table, place, slots, versions)
+}

@@ -1,0 +1,18 @@
+-- `versions::is_unborn` meets its contract. Assumes nothing.
+use mir.Syntax.{w64}
+use mir.Val.{SFits}
+use borrow.Author.Needs.{needs}
+use Rattle.laws.specs.Tests.{any}
+use Rattle.laws.specs.Bits.{plain}
+use Rattle.versions.specs.Sessions.{unborn}
+use Rattle.versions.proofs.is_unborn.Statement.{statement}
+use Rattle.versions.proofs.is_unborn.Tie as tie
+
+returns : tie.Need-returns
+unfolding unborn any
+returns c =
+    let f : SFits w64 (c .before .args .versions .current) = search needs in
+    simp (plain _ f, plain _ (c .before .fits .session))
+
+pub is-unborn-spec : {M : Type 1} → statement M
+is-unborn-spec = tie.close (tie.spec returns)

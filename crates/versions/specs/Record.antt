@@ -1,0 +1,35 @@
+-- The version record: the largest version, the fresh record, refusal 2, and the run numbers that follow from a
+-- record. Only this crate unfolds `badRecord`; what it means outside is `Sound` of `RecordLaws`. Assumes nothing.
+use mathlib.Core.Bool.{Bool, false, cond, not, _&&_}
+use mathlib.Core.List.{[], _∷_}
+use lib.IntN.{ℤ, pos, _+ℤ_}
+use Rattle.laws.specs.Tests.{any}
+use Rattle.laws.specs.Order.{eqZ, fromTo}
+use Rattle.versions.specs.declared.VersionRecord.{VersionRecord}
+
+-- the largest version
+abbrev pub largestVersion : ℤ
+largestVersion = pos 1000000000
+
+-- a fresh record has current version 1 and no run active
+abbrev pub freshRecord : VersionRecord
+freshRecord = record { current = pos 1; active = false }
+
+-- 2: current version not in 1 to 1,000,000,000, or equal to 1,000,000,000 with a run active
+unfoldable pub badRecord : VersionRecord → Bool
+badRecord v =
+    any (not (fromTo (pos 1) largestVersion (v .current))
+    ∷ (v .active && eqZ (v .current) largestVersion)
+    ∷ [])
+
+-- 8: no run is active
+abbrev pub idle : VersionRecord → Bool
+idle v = not (v .active)
+
+-- a running maintenance has number current + 1
+abbrev pub runNumber : VersionRecord → ℤ
+runNumber v = v .current +ℤ pos 1
+
+-- a run number is at most current, or current + 1 while a run is active
+abbrev pub lastRun : VersionRecord → ℤ
+lastRun v = cond (v .active) (runNumber v) (v .current)

@@ -1,0 +1,19 @@
+-- Which sessions are open: refusals 3 and 4. Only this crate unfolds the two. Assumes nothing.
+use mathlib.Core.Bool.{Bool, _&&_}
+use mathlib.Core.List.{[], _∷_}
+use lib.IntN.{ℤ, pos, _-ℤ_}
+use lib.Signed.{ltZ}
+use Rattle.laws.specs.Tests.{any}
+use Rattle.laws.specs.Order.{eqZ}
+use Rattle.versions.specs.declared.VersionRecord.{VersionRecord}
+
+-- 3: session below 1 or above current
+unfoldable pub unborn : VersionRecord → ℤ → Bool
+unborn v s = any (ltZ s (pos 1) ∷ ltZ (v .current) s ∷ [])
+
+-- 4: session below current − 1, or equal to current − 1 while a run is active
+unfoldable pub expired : VersionRecord → ℤ → Bool
+expired v s =
+    any (ltZ s (v .current -ℤ pos 1)
+    ∷ (v .active && eqZ s (v .current -ℤ pos 1))
+    ∷ [])
