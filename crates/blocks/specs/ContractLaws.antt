@@ -3,7 +3,7 @@ use mathlib.Core.Path.{_≡_, refl, _∙_}
 use mathlib.Core.List.{List}
 use Prim.Native.Nat.{ℕ, suc}
 use lib.IntN.{ℤ}
-use Rattle.laws.specs.First.{unless, unless-refused, unless-done}
+use Rattle.laws.specs.FirstLaws.{unless-refused, unless-done}
 use Rattle.versions.specs.declared.VersionRecord.{VersionRecord}
 use Rattle.blocks_words.specs.Words.{blockOf, zeroBlock}
 use Rattle.blocks_words.specs.Longs.{blockSlots}
@@ -20,15 +20,7 @@ use Rattle.blocks.specs.SaveHeader.{saveHeaderRefusal, saveHeaderBlock, 
 use Rattle.blocks.specs.SaveBlock.{saveBlockRefusal, saveBlockBlock, SaveBlockContract}
 use Rattle.blocks.specs.LoadHeader.{loadHeaderRefusal, loadHeaderAnswer, LoadHeaderContract}
 use Rattle.blocks.specs.LoadBlock.{loadBlockRefusal, loadBlockAnswer, loadBlockWords, LoadBlockContract}
-
--- ---- a save hands out the refusal's number beside zeros, or 0 beside the block of its words
-pub record Hands (r : Saved) (n : ℕ) (words : List ℕ) : Type 0 where
-  pub refusal : r .refusal ≡ n
-  pub block : r .block ≡ unless n (λ m. zeroBlock) (blockOf words)
-
-pub record HandsZeros (r : Saved) (n : ℕ) : Type 0 where
-  pub refusal : r .refusal ≡ n
-  pub block : r .block ≡ zeroBlock
+use Rattle.blocks.specs.HandedOut.{Hands, HandsZeros}
 
 pub zeros-handed : {r : Saved} {n : ℕ} (words : List ℕ) → HandsZeros r n → (n ≡ 0 → ⊥) → Hands r n words
 zeros-handed words h z = record { refusal = h .refusal; block = h .block ∙ unless-refused (λ m. zeroBlock) (blockOf words) refl z }

@@ -7,17 +7,14 @@ use Prim.Native.Nat.{ℕ}
 use lib.IntN.{ℤ}
 use lib.ListN.{length}
 use borrow.Author.Tests.{ne-eqb}
-use Rattle.laws.specs.First.{first, pass, skip, hit, done}
+use Rattle.laws.specs.FirstLaws.{pass, skip, hit, done}
+use Rattle.laws.specs.First.{first}
 use Rattle.versions.specs.declared.VersionRecord.{VersionRecord}
-use Rattle.blocks_words.specs.Words.{blockBytes, notBlock, checkWrong}
+use Rattle.blocks_words.specs.Words.{blockBytes, checkWrong}
 use Rattle.blocks_words.specs.WordLaws.{whole-block}
 use Rattle.blocks_loads.specs.LoadedSlots.{slotBlockWrong}
-use Rattle.blocks.specs.FrontLaws.{blockTests}
+use Rattle.blocks.specs.BlockTests.{blockTests, endTests}
 use Rattle.blocks.specs.LoadBlock.{loadBlockRefusal}
-
--- 14, 15, 16: the last is whether its words are wrong
-abbrev pub endTests : List ℕ → Bool → List (Bool × ℕ)
-endTests block wrong = (notBlock block, 14) ∷ (checkWrong block, 15) ∷ (wrong, 16) ∷ []
 
 module _ (block : List ℕ) (wrong : Bool) where
   pub end-14 : (length block ≡ blockBytes → ⊥) → first (endTests block wrong) ≡ 14

@@ -1,31 +1,21 @@
 -- The tests that the lists of the saves and of load block begin with, and what is known where none of them refuses.
 -- Assumes nothing.
 use mathlib.Core.Path.{_≡_, _∙_}
-use mathlib.Core.Bool.{Bool, false}
-use mathlib.Core.List.{List, [], _∷_, _++_}
+use mathlib.Core.Bool.{false}
+use mathlib.Core.List.{List}
 use Prim.Native.Nat.{ℕ}
 use lib.IntN.{ℤ, pos}
 use borrow.Author.Tests.{leb-true}
-use Rattle.laws.specs.Tests.{not-no}
-use Rattle.laws.specs.First.{first, none, skip, done}
-use Rattle.laws.specs.Order.{from-to}
+use Rattle.laws.specs.TestLaws.{not-no}
+use Rattle.laws.specs.FirstLaws.{none, skip, done}
+use Rattle.laws.specs.First.{first}
+use Rattle.laws.specs.OrderLaws.{from-to}
 use Rattle.versions.specs.declared.VersionRecord.{VersionRecord}
 use Rattle.versions.specs.Record.{badRecord}
 use Rattle.table.specs.Slots.{badTable}
 use Rattle.blocks_loads.specs.LoadedSlots.{blocks, Within}
-use Rattle.blocks.specs.SlotBlocks.{noSuchBlock, blockBroken}
-
--- 1, 2, 7
-abbrev pub idleTests : List ℤ → VersionRecord → List (Bool × ℕ)
-idleTests t v = (badTable t, 1) ∷ (badRecord v, 2) ∷ (v .active, 7) ∷ []
-
--- 1, 2, 7, 5
-abbrev pub blockTests : List ℤ → VersionRecord → ℕ → List (Bool × ℕ)
-blockTests t v k = idleTests t v ++ (noSuchBlock t k, 5) ∷ []
-
--- what is left of the list of save block: 6
-abbrev pub slotTests : List ℤ → VersionRecord → ℕ → List (Bool × ℕ)
-slotTests t v k = (blockBroken t v k, 6) ∷ []
+use Rattle.blocks.specs.SlotBlocks.{noSuchBlock}
+use Rattle.blocks.specs.BlockTests.{blockTests}
 
 -- ---- no test refuses where each fails
 pub front-passes : (t : List ℤ) (v : VersionRecord) (k : ℕ) → badTable t ≡ false → badRecord v ≡ false → v .active ≡ false → noSuchBlock t k ≡ false

@@ -10,10 +10,10 @@ use lib.IntN.{ℤ, pos, negsuc, natAbs}
 use lib.Signed.{leZ, nonNeg}
 use lib.ListN.{getD, replicate}
 use borrow.Author.Tests.{leb-true, le-leb}
-use Rattle.laws.specs.Tests.{clash}
-use Rattle.laws.specs.First.{none}
+use Rattle.laws.specs.TestLaws.{clash}
+use Rattle.laws.specs.FirstLaws.{none}
 use Rattle.laws.specs.Order.{fromTo}
-use Rattle.laws.specs.Digits.{EachBelow}
+use Rattle.laws.specs.DigitLaws.{EachBelow}
 use Rattle.versions.specs.declared.VersionRecord.{VersionRecord}
 use Rattle.versions.specs.Record.{largestVersion, badRecord}
 use Rattle.versions.specs.RecordLaws.{sound}

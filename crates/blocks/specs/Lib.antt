@@ -4,8 +4,10 @@ pub mod SaveHeader
 pub mod SaveBlock
 pub mod LoadHeader
 pub mod LoadBlock
+pub mod BlockTests
 pub mod FrontLaws
 pub mod EndLaws
+pub mod HandedOut
 pub mod ContractLaws
 pub mod HeaderLaws
 pub mod SlotBlockLaws

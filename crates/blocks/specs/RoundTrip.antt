@@ -11,9 +11,9 @@ use lib.Dec.{ltb}
 use lib.IntN.{ℤ}
 use lib.ListN.{length}
 use borrow.Author.Tests.{ltb-false}
-use Rattle.laws.specs.Tests.{by-test, by-order}
-use Rattle.laws.specs.First.{none}
-use Rattle.laws.specs.Lowest.{none-passes}
+use Rattle.laws.specs.TestLaws.{by-test, by-order}
+use Rattle.laws.specs.FirstLaws.{none}
+use Rattle.laws.specs.LowestLaws.{none-passes}
 use Rattle.versions.specs.declared.VersionRecord.{VersionRecord}
 use Rattle.table.specs.Slots.{badTable, slots, slotAt}
 use Rattle.table.specs.SlotLaws.{slotAt-past, same-length, by-slots}

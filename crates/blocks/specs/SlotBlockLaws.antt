@@ -16,9 +16,11 @@ use mir.Syntax.{w64}
 use mir.Val.{SFits, ofZ}
 use mir.ValLaws.{ofZ-fits}
 use Rattle.laws.specs.Bits.{plain}
-use Rattle.laws.specs.First.{first, none, hit, skip, done}
-use Rattle.laws.specs.Lowest.{some-yes, all-fail}
-use Rattle.laws.specs.Digits.{digits, EachBelow, digits-below, number-digits}
+use Rattle.laws.specs.FirstLaws.{none, hit, skip, done}
+use Rattle.laws.specs.First.{first}
+use Rattle.laws.specs.LowestLaws.{some-yes, all-fail}
+use Rattle.laws.specs.DigitLaws.{EachBelow, digits-below, number-digits}
+use Rattle.laws.specs.Digits.{digits}
 use Rattle.versions.specs.declared.VersionRecord.{VersionRecord}
 use Rattle.table.specs.declared.Slot.{Slot}
 use Rattle.table.specs.Slots.{slotWords, badTable, wordsOf, word, slotAt, empty}
@@ -27,12 +29,14 @@ use Rattle.table.specs.Formed.{broken}
 use Rattle.blocks_words.specs.Words.{checkPlace, byteBase, wordBytes, wordBase, blockOf, wordAt}
 use Rattle.blocks_words.specs.Groups.{groups-length, groups-at, groups-below, append-below, zeros-below}
 use Rattle.blocks_words.specs.WordLaws.{BlockWords, block-word}
-use Rattle.blocks_words.specs.FollowLaws.{FollowedBy, Follow, whole}
+use Rattle.blocks_words.specs.FollowLaws.{whole}
+use Rattle.blocks_words.specs.Follows.{FollowedBy, Follow}
 use Rattle.blocks_words.specs.LongLaws.{slot-of-words}
 use Rattle.blocks_words.specs.Longs.{blockSlots, halves, halvesOf, longAt, blockSlot}
 use Rattle.blocks_loads.specs.LoadedSlots.{firstSlot}
 use Rattle.blocks.specs.SlotBlocks.{slotsFrom, slotBlockWords, blockBroken}
-use Rattle.blocks.specs.FrontLaws.{blockTests, slotTests, front-passes, within}
+use Rattle.blocks.specs.FrontLaws.{front-passes, within}
+use Rattle.blocks.specs.BlockTests.{blockTests, slotTests}
 use Rattle.blocks.specs.SaveBlock.{saveBlockRefusal, saveBlockBlock}
 
 -- the words of a table are machine words

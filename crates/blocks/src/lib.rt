@@ -2,8 +2,8 @@
 // and added to the check; a load tests everything before it writes.
 ghost use mathlib.Core.Path.{_≡_};
 ghost use Rattle.laws.specs.First.{first};
-ghost use Rattle.blocks.specs.FrontLaws.{idleTests, blockTests};
-ghost use Rattle.blocks.specs.ContractLaws.{HandsZeros};
+ghost use Rattle.blocks.specs.BlockTests.{idleTests, blockTests};
+ghost use Rattle.blocks.specs.HandedOut.{HandsZeros};
 ghost use Rattle.blocks.specs.SaveHeader.{SaveHeaderContract};
 ghost use Rattle.blocks.specs.SaveBlock.{SaveBlockContract};
 ghost use Rattle.blocks.specs.LoadHeader.{LoadHeaderContract};

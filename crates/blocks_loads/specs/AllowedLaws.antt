@@ -7,7 +7,7 @@ use lib.IntN.{ℤ, pos}
 use borrow.Author.Tests.{eq-eqb}
 use Rattle.laws.specs.Tests.{any}
 use Rattle.laws.specs.Order.{fromTo}
-use Rattle.laws.specs.Lowest.{all-fail}
+use Rattle.laws.specs.LowestLaws.{all-fail}
 use Rattle.versions.specs.declared.VersionRecord.{VersionRecord}
 use Rattle.versions.specs.Record.{largestVersion}
 use Rattle.blocks_words.specs.Words.{wordAt, nonzero}

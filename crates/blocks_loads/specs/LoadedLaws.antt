@@ -2,7 +2,7 @@
 -- the block holds is the block's, and every other slot is as before. By recursion on how many are written, each by the laws
 -- of a slot that was put. Assumes nothing.
 use mathlib.Core.Path.{_≡_, refl, _∙_}
-use mathlib.Core.Bool.{false, cond}
+use mathlib.Core.Bool.{false}
 use mathlib.Core.Logic.{⊎-elim}
 use mathlib.Core.List.{List}
 use Prim.Native.Nat.{ℕ, zero, suc, _+_, _<_}
@@ -13,15 +13,11 @@ use lib.Dec.{ltb}
 use lib.IntN.{ℤ}
 use lib.ListN.{length}
 use borrow.Author.Tests.{lt-ltb}
-use Rattle.laws.specs.Tests.{by-test}
-use Rattle.table.specs.Slots.{badTable, slots, slotAt, putSlot}
+use Rattle.laws.specs.TestLaws.{by-test}
+use Rattle.table.specs.Slots.{badTable, slots, slotAt}
 use Rattle.table.specs.SlotLaws.{put-length, put-same, put-other, same-length}
 use Rattle.blocks_words.specs.Longs.{blockSlot}
-use Rattle.blocks_loads.specs.LoadedSlots.{firstSlot, Within, loadedTo}
-
--- a table with one slot of a block written, if it is not beyond the table
-abbrev pub slotLoaded : List ℤ → ℕ → List ℕ → ℕ → List ℤ
-slotLoaded u k block n = cond (ltb (firstSlot k + n) (slots u)) (putSlot u (firstSlot k + n) (blockSlot block n)) u
+use Rattle.blocks_loads.specs.LoadedSlots.{firstSlot, Within, loadedTo, slotLoaded}
 
 module _ (t : List ℤ) (k : ℕ) (block : List ℕ) where
   -- the length is kept

@@ -48,3 +48,7 @@ loadedTo t k block (suc n) =
     cond (ltb (firstSlot k + n) (slots t))
     (putSlot (loadedTo t k block n) (firstSlot k + n) (blockSlot block n))
     (loadedTo t k block n)
+
+-- a table with one slot of a block written, if it is not beyond the table
+abbrev pub slotLoaded : List ℤ → ℕ → List ℕ → ℕ → List ℤ
+slotLoaded u k block n = cond (ltb (firstSlot k + n) (slots u)) (putSlot u (firstSlot k + n) (blockSlot block n)) u

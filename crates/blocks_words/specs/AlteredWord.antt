@@ -9,8 +9,8 @@ use native.Mathlib.Nat.{eq-or-lt-of-le, le-of-suc-le-suc}
 use native.Mathlib.Omega.{arith}
 use lib.ListN.{length}
 use borrow.Author.Tests.{ne-eqb, eqb-true}
-use Rattle.laws.specs.Tests.{not-no}
-use Rattle.laws.specs.Digits.{EachBelow}
+use Rattle.laws.specs.TestLaws.{not-no}
+use Rattle.laws.specs.DigitLaws.{EachBelow}
 use Rattle.blocks_words.specs.Words.{blockBytes, checkPlace, byteBase, wordBytes, wordBase, blockOf, wordAt, totalTo, checkWrong}
 use Rattle.blocks_words.specs.WordLaws.{BlockWords, block-below, check-right}
 

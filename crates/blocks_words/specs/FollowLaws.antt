@@ -10,19 +10,7 @@ use lib.Seq.{sets}
 use Rattle.laws.specs.Digits.{digits}
 use Rattle.blocks_words.specs.Words.{checkPlace, byteBase, wordBytes, wordBase, bytesOf, total, blockOf, zeroBlock}
 use Rattle.blocks_words.specs.WordLaws.{total-append}
-
--- the words so far, and zeros to word 127
-abbrev padded : List ℕ → List ℕ
-padded ws = ws ++ replicate (suc checkPlace - length ws) 0
-
--- a block with the words so far, and their check
-pub record FollowedBy (ws block : List ℕ) (check : ℕ) : Type 0 where
-  pub bytes : block ≡ bytesOf (padded ws)
-  pub sum : check ≡ total ws % wordBase
-
--- words were written from a place on: they follow any that stood before it
-pub record Follow (place : ℕ) (block : List ℕ) (check : ℕ) (words block′ : List ℕ) (check′ : ℕ) : Type 0 where
-  pub after : (ws : List ℕ) → length ws ≡ place → FollowedBy ws block check → FollowedBy (ws ++ words) block′ check′
+use Rattle.blocks_words.specs.Follows.{padded, FollowedBy, Follow}
 
 -- ---- a word of a block's words is stored over another
 stored : (ws rest : List ℕ) (old w : ℕ) → sets (bytesOf (ws ++ old ∷ rest)) (length ws * wordBytes) (digits byteBase wordBytes w) ≡ bytesOf (ws ++ w ∷ rest)

@@ -8,7 +8,7 @@ use native.Mathlib.Nat.{zero-add, zero-mul, suc-mul}
 use native.Mathlib.Omega.{arith}
 use lib.ListN.{length, getD, length-append, List·getD-append, replicate}
 use lib.Seq.{getD-append-add}
-use Rattle.laws.specs.Digits.{EachBelow}
+use Rattle.laws.specs.DigitLaws.{EachBelow}
 
 module _ {A B : Type 0} (group : A → List B) (width : ℕ) (wide : (a : A) → length (group a) ≡ width) where
   -- so many groups of one width

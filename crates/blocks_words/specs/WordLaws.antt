@@ -9,8 +9,9 @@ use native.Mathlib.Omega.{arith}
 use lib.ListN.{length, getD, take, replicate, length-append, length-replicate, getD-replicate, List·getD-append}
 use lib.Seq.{take-suc, take-all, getD-at, getD-append-add}
 use borrow.Author.Tests.{eq-eqb}
-use Rattle.laws.specs.Digits.{digits, EachBelow, digits-length, digits-below, number-digits}
-use Rattle.laws.specs.Lowest.{all-fail}
+use Rattle.laws.specs.DigitLaws.{EachBelow, digits-length, digits-below, number-digits}
+use Rattle.laws.specs.Digits.{digits}
+use Rattle.laws.specs.LowestLaws.{all-fail}
 use Rattle.blocks_words.specs.Words.{blockBytes, checkPlace, byteBase, wordBytes, wordBase, bytesOf, total, blockOf, wordAt, totalTo, notBlock, checkWrong, nonzero}
 use Rattle.blocks_words.specs.Groups.{groups-length, groups-at, groups-below, append-below}
 

@@ -6,7 +6,7 @@ ghost use Prim.Native.Nat.{_+_, _*_, _%_, _≤_, _<_};
 ghost use lib.ListN.{length};
 ghost use lib.Seq.{sets};
 ghost use Rattle.laws.specs.Digits.{digits};
-ghost use Rattle.blocks_words.specs.FollowLaws.{Follow};
+ghost use Rattle.blocks_words.specs.Follows.{Follow};
 ghost use Rattle.blocks_words.specs.Words.{blockBytes, checkPlace, byteBase, wordBytes, wordBase, wordAt, totalTo, checkWrong, nonzero};
 
 pub mod longs;

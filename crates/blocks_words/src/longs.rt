@@ -7,7 +7,7 @@ ghost use mir.Syntax.{w64};
 ghost use mir.Val.{toZ, ofZ};
 ghost use Rattle.table.specs.Slots.{wordsOf};
 ghost use Rattle.blocks_words.specs.Words.{blockBytes, checkPlace, wordBase};
-ghost use Rattle.blocks_words.specs.FollowLaws.{Follow};
+ghost use Rattle.blocks_words.specs.Follows.{Follow};
 ghost use Rattle.blocks_words.specs.Longs.{blockSlots, halves, halvesOf, longAt, blockSlot};
 use table::Slot;
 

@@ -5,13 +5,14 @@ use mathlib.Core.Bool.{true}
 use mathlib.Core.List.{List}
 use Prim.Native.Nat.{ℕ, suc}
 use lib.IntN.{ℤ}
-use Rattle.laws.specs.Tests.{not-no}
-use Rattle.laws.specs.First.{none}
+use Rattle.laws.specs.TestLaws.{not-no}
+use Rattle.laws.specs.FirstLaws.{none}
 use Rattle.versions.specs.declared.VersionRecord.{VersionRecord}
 use Rattle.table_searches.specs.Keys.{keySlot}
 use Rattle.changes.specs.declared.Placed.{Placed}
 use Rattle.changes.specs.declared.Placed.the-variants.{InSlot, Refused}
-use Rattle.changes.specs.Insert.{insertSlot, insertRefusal, insertAnswer, insertWords}
+use Rattle.changes.specs.Insert.{insertRefusal, insertAnswer, insertWords}
+use Rattle.changes.specs.ChangeTests.{insertSlot}
 use Rattle.changes.specs.Update.{updateRefusal, updateAnswer, updateWords}
 use Rattle.changes.specs.Delete.{deleteRefusal, deleteAnswer, deleteWords}
 

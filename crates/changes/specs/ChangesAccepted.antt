@@ -8,9 +8,9 @@ use lib.Dec.{ltb}
 use lib.IntN.{ℤ, pos}
 use lib.Signed.{ltZ, leZ}
 use borrow.Author.Tests.{ltb-true, ltb-false}
-use Rattle.laws.specs.Tests.{by-test, clash, not-no}
-use Rattle.laws.specs.First.{none}
-use Rattle.laws.specs.Order.{next-ltZ, leZ-trans}
+use Rattle.laws.specs.TestLaws.{by-test, clash, not-no}
+use Rattle.laws.specs.FirstLaws.{none}
+use Rattle.laws.specs.OrderLaws.{next-ltZ, leZ-trans}
 use Rattle.versions.specs.declared.VersionRecord.{VersionRecord}
 use Rattle.versions.specs.Record.{badRecord, runNumber}
 use Rattle.versions.specs.RecordLaws.{sound}
@@ -18,7 +18,8 @@ use Rattle.table.specs.declared.Slot.{Slot}
 use Rattle.table.specs.Slots.{slots, slotAt, putSlot, empty}
 use Rattle.table.specs.Operations.{deleteOperation, live}
 use Rattle.table.specs.OperationLaws.{live-cases}
-use Rattle.table.specs.TotalLaws.{Given, given}
+use Rattle.table.specs.TotalLaws.{given}
+use Rattle.table.specs.Totals.{Given}
 use Rattle.table.specs.Formed.{wellFormed}
 use Rattle.table.specs.FormedLaws.{Used, live-used, formed-cases, dead-deleted}
 use Rattle.table_searches.specs.Keys.{hasKey, keySlot, keyed, keyLive}
@@ -34,7 +35,8 @@ use Rattle.changes_cells.specs.Tables.{inserted, updated, deleted}
 use Rattle.changes_cells.specs.TableLaws.{inserted-new, inserted-older, inserted-same, updated-older, updated-same, deleted-older, deleted-insert, deleted-update}
 use Rattle.changes.specs.Effects.{Effect, run-within, save-effect, correct-effect, remove-effect, erase-effect, mark-effect, restore-effect, insert-effect}
 use Rattle.changes.specs.Whole.{Whole, KeysApart, Wrote, only-slot}
-use Rattle.changes.specs.Insert.{insertSlot, insertRefusal, insertAnswer, insertWords}
+use Rattle.changes.specs.Insert.{insertRefusal, insertAnswer, insertWords}
+use Rattle.changes.specs.ChangeTests.{insertSlot}
 use Rattle.changes.specs.Update.{updateRefusal, updateAnswer, updateWords}
 use Rattle.changes.specs.Delete.{deleteRefusal, deleteAnswer, deleteWords}
 use Rattle.changes.specs.ChangeOutcomes.{ChangeRefuses, ChangeAccepts, insert-refuses, insert-accepts, update-refuses, update-accepts, delete-refuses, delete-accepts}

@@ -10,9 +10,10 @@ use lib.Dec.{ltb}
 use lib.IntN.{ℤ}
 use borrow.Author.Tests.{ltb-true, ltb-false, le-ltb}
 use native.Mathlib.Nat.{lt-of-lt-of-le}
-use Rattle.laws.specs.Tests.{by-test, clash, not-yes}
-use Rattle.laws.specs.First.{first, skip, hit, under}
-use Rattle.laws.specs.Order.{next-ltZ}
+use Rattle.laws.specs.TestLaws.{by-test, clash, not-yes}
+use Rattle.laws.specs.FirstLaws.{skip, hit, under}
+use Rattle.laws.specs.First.{first}
+use Rattle.laws.specs.OrderLaws.{next-ltZ}
 use Rattle.versions.specs.declared.VersionRecord.{VersionRecord}
 use Rattle.versions.specs.Record.{badRecord, runNumber}
 use Rattle.versions.specs.RecordLaws.{sound}
@@ -29,9 +30,9 @@ use Rattle.reads.specs.Table1.{shown, currentRow, oldRow}
 use Rattle.reads.specs.Table1Laws.{shown-current, shown-removed}
 use Rattle.changes.specs.Effects.{run-within}
 use Rattle.changes.specs.Whole.{Whole}
-use Rattle.changes.specs.Running.{runningTests}
-use Rattle.changes.specs.Insert.{insertSlot, noSlot, insertRefusal}
-use Rattle.changes.specs.Update.{notLive, updateRefusal}
+use Rattle.changes.specs.ChangeTests.{runningTests, insertSlot, noSlot, notLive}
+use Rattle.changes.specs.Insert.{insertRefusal}
+use Rattle.changes.specs.Update.{updateRefusal}
 use Rattle.changes.specs.Delete.{deleteRefusal}
 
 module _ (t : List ℤ) (v : VersionRecord) (whole : Whole t v) (known : badRecord v ≡ false) (active : v .active ≡ true) where

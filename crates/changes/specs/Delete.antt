@@ -14,7 +14,7 @@ use Rattle.table_searches.specs.Keys.{keySlot, keyed}
 use Rattle.changes.specs.declared.Placed.{Placed}
 use Rattle.changes.specs.declared.Placed.the-variants.{InSlot, Refused}
 use Rattle.changes_cells.specs.Tables.{deleted}
-use Rattle.changes.specs.Update.{notLive}
+use Rattle.changes.specs.ChangeTests.{notLive}
 
 -- Delete: 1, 2, 8, 6, 11
 abbrev pub deleteTests : List ℤ → VersionRecord → ℤ → ℤ → List (Bool × ℕ)

@@ -6,7 +6,8 @@ use mathlib.Core.Bool.{true, false}
 use mathlib.Core.Logic.{_⊎_, inl, inr}
 use lib.IntN.{ℤ, pos}
 use lib.Signed.{leZ}
-use Rattle.laws.specs.Order.{leZ-refl, next-leZ, next-low, from-to, fromTo}
+use Rattle.laws.specs.OrderLaws.{leZ-refl, next-leZ, next-low, from-to}
+use Rattle.laws.specs.Order.{fromTo}
 use Rattle.versions.specs.declared.VersionRecord.{VersionRecord}
 use Rattle.versions.specs.Record.{badRecord, runNumber, lastRun}
 use Rattle.versions.specs.RecordLaws.{sound}
@@ -14,7 +15,8 @@ use Rattle.table.specs.declared.Slot.{Slot}
 use Rattle.table.specs.Slots.{empty}
 use Rattle.table.specs.Operations.{insertOperation, updateOperation, deleteOperation, live}
 use Rattle.table.specs.OperationLaws.{live-cases, live-insert, live-update, live-same}
-use Rattle.table.specs.TotalLaws.{Given, lawful-zero}
+use Rattle.table.specs.TotalLaws.{lawful-zero}
+use Rattle.table.specs.Totals.{Given}
 use Rattle.table.specs.Formed.{wellFormed}
 use Rattle.table.specs.FormedLaws.{Used, used-formed, empty-formed}
 use Rattle.table_searches.specs.KeyLaws.{Keyed}

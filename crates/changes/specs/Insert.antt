@@ -1,31 +1,21 @@
 -- Insert: its refusals in the document's order, its answer, the words that it leaves, and the contract that says so.
 -- Assumes nothing.
 use mathlib.Core.Path.{_≡_, sym, _∙_}
-use mathlib.Core.Bool.{Bool, cond, not}
+use mathlib.Core.Bool.{Bool}
 use mathlib.Core.List.{List, [], _∷_}
 use Prim.Native.Nat.{ℕ}
-use lib.Dec.{ltb}
 use lib.IntN.{ℤ}
 use Rattle.laws.specs.First.{first, unless}
 use Rattle.versions.specs.declared.VersionRecord.{VersionRecord}
 use Rattle.versions.specs.Record.{badRecord, idle, runNumber}
-use Rattle.table.specs.Slots.{badTable, slots, putSlot}
+use Rattle.table.specs.Slots.{badTable, putSlot}
 use Rattle.table.specs.Totals.{unlawful}
 use Rattle.table.specs.Formed.{broken}
-use Rattle.table_searches.specs.Keys.{keySlot, keyed, keyLive}
-use Rattle.table_searches.specs.Free.{freeSlot}
+use Rattle.table_searches.specs.Keys.{keyed, keyLive}
 use Rattle.changes.specs.declared.Placed.{Placed}
 use Rattle.changes.specs.declared.Placed.the-variants.{InSlot, Refused}
 use Rattle.changes_cells.specs.Tables.{inserted}
-
--- the slot that is written: the key's; where the key has none, the lowest that is all zeros, or is well formed and deleted
--- by an older run
-abbrev pub insertSlot : List ℤ → VersionRecord → ℤ → ℤ → ℕ
-insertSlot t v key1 key2 = cond (ltb (keySlot t key1 key2) (slots t)) (keySlot t key1 key2) (freeSlot t v)
-
--- 12: no slot to take
-abbrev pub noSlot : List ℤ → VersionRecord → ℤ → ℤ → Bool
-noSlot t v key1 key2 = not (ltb (insertSlot t v key1 key2) (slots t))
+use Rattle.changes.specs.ChangeTests.{insertSlot, noSlot}
 
 -- Insert: 1, 2, 8, 13, 6, 10, 12
 abbrev pub insertTests : List ℤ → VersionRecord → ℤ → ℤ → ℤ → ℤ → List (Bool × ℕ)

@@ -3,10 +3,13 @@ pub mod Whole
 pub mod ChangesAccepted
 pub mod ChangesRefused
 pub mod ChangeOutcomes
+pub mod PlacedNumbers
 pub mod Places
-pub mod Running
+pub mod ChangeTests
+pub mod RunningLaws
 pub mod Insert
 pub mod Update
 pub mod Delete
+pub mod ChangeLeaves
 pub mod PlacedLaws
 pub mod Looked

@@ -2,35 +2,28 @@
 -- part. Each change leaves the same: a refusal and the table as it was, or the number of the slot that was written and the
 -- table with it. Assumes nothing.
 use mathlib.Core.Path.{_≡_, sym, ap₂, subst, _∙_}
-use mathlib.Core.Bool.{Bool, false}
-use mathlib.Core.List.{List, [], _∷_, _++_}
+use mathlib.Core.Bool.{false}
+use mathlib.Core.List.{List}
 use Prim.Native.Nat.{ℕ}
 use lib.IntN.{ℤ}
-use Rattle.laws.specs.Tests.{not-no}
-use Rattle.laws.specs.First.{first, unless, unless-refused, none, skip, done}
+use Rattle.laws.specs.TestLaws.{not-no}
+use Rattle.laws.specs.FirstLaws.{unless-refused, none, skip, done}
 use Rattle.versions.specs.declared.VersionRecord.{VersionRecord}
 use Rattle.versions.specs.Record.{runNumber}
 use Rattle.table.specs.declared.Slot.{Slot}
 use Rattle.table.specs.Slots.{badTable, putSlot}
-use Rattle.table.specs.Totals.{unlawful}
 use Rattle.table.specs.Formed.{broken}
-use Rattle.table_searches.specs.Keys.{keySlot, keyed, keyLive}
+use Rattle.table_searches.specs.Keys.{keySlot, keyed}
 use Rattle.table_searches.specs.KeyLaws.{live-keyed}
 use Rattle.changes.specs.declared.Placed.{Placed}
 use Rattle.changes.specs.declared.Placed.the-variants.{InSlot, Refused}
 use Rattle.changes_cells.specs.Tables.{changed, inserted, updated, deleted}
-use Rattle.changes.specs.Running.{runningTests, Running}
-use Rattle.changes.specs.Insert.{insertSlot, noSlot, insertRefusal, insertAnswer, insertWords, InsertContract}
-use Rattle.changes.specs.Update.{notLive, updateRefusal, updateAnswer, updateWords, UpdateContract}
+use Rattle.changes.specs.RunningLaws.{Running}
+use Rattle.changes.specs.ChangeTests.{insertSlot, notLive, givenRefusal}
+use Rattle.changes.specs.Insert.{insertRefusal, insertAnswer, insertWords, InsertContract}
+use Rattle.changes.specs.Update.{updateRefusal, updateAnswer, updateWords, UpdateContract}
 use Rattle.changes.specs.Delete.{deleteRefusal, deleteAnswer, deleteWords, DeleteContract}
-
--- ---- the parts of the lists of tests
--- 1, 2, 8, 13: insert and update begin with these, delete with 1, 2, 8
-abbrev pub givenTests : List ℤ → VersionRecord → ℤ → ℤ → List (Bool × ℕ)
-givenTests t v a b = runningTests t v ++ (unlawful a b, 13) ∷ []
-
-abbrev pub givenRefusal : List ℤ → VersionRecord → ℤ → ℤ → ℕ
-givenRefusal t v a b = first (givenTests t v a b)
+use Rattle.changes.specs.ChangeLeaves.{Leaves, RowChanged}
 
 -- where none of them is given, a run is active
 pub given : (t : List ℤ) (v : VersionRecord) (a b : ℤ) → givenRefusal t v a b ≡ 0 → Running t v
@@ -38,34 +31,12 @@ given t v a b h =
     let no = none _ tt h in
     record { table = no 1; known = no 2; active = not-no (no 8) }
 
--- 6, 10, 12: insert ends with these
-abbrev pub addTests : List ℤ → VersionRecord → ℤ → ℤ → List (Bool × ℕ)
-addTests t v key1 key2 = (broken (keyed t key1 key2) v, 6) ∷ (keyLive t key1 key2, 10) ∷ (noSlot t v key1 key2, 12) ∷ []
-
--- 6, 11: update and delete end with these
-abbrev pub changeTests : List ℤ → VersionRecord → ℤ → ℤ → List (Bool × ℕ)
-changeTests t v key1 key2 = (broken (keyed t key1 key2) v, 6) ∷ (notLive t key1 key2, 11) ∷ []
-
--- ---- what a change leaves of the table t that is refused by n, or writes the slot y at the place k
-pub record Leaves (n : ℕ) (t : List ℤ) (k : ℕ) (y : Slot) (r : Placed) (t′ : List ℤ) : Type 0 where
-  pub answer : r ≡ unless n Refused (InSlot k)
-  pub words : t′ ≡ unless n (λ m. t) (putSlot t k y)
-
 pub refused : {m n k : ℕ} {t : List ℤ} {y : Slot} → m ≡ n → (n ≡ 0 → ⊥) → Leaves m t k y (Refused n) t
 refused {k} {t} {y} e z = record { answer = unless-refused Refused (InSlot k) e z; words = unless-refused (λ m. t) (putSlot t k y) e z }
 
 -- past tests that failed it is what the tests after them leave
 pub passed : {m n k : ℕ} {t t′ : List ℤ} {y : Slot} {r : Placed} → m ≡ n → Leaves n t k y r t′ → Leaves m t k y r t′
 passed {k} {t} {t′} {y} {r} e w = subst (λ i. Leaves i t k y r t′) (sym e) w
-
--- ---- what an insert leaves past its first part
-pub record RowAdded (t : List ℤ) (v : VersionRecord) (key1 key2 total1 total2 : ℤ) (r : Placed) (t′ : List ℤ) : Type 0 where
-  pub leaves : Leaves (first (addTests t v key1 key2)) t (insertSlot t v key1 key2) (inserted (runNumber v) (keyed t key1 key2) key1 key2 total1 total2) r t′
-
--- ---- what an update and a delete leave past theirs, by a decision table
-pub record RowChanged (cells : List ℕ) (t : List ℤ) (v : VersionRecord) (key1 key2 total1 total2 : ℤ) (r : Placed) (t′ : List ℤ) : Type 0 where
-  pub leaves : let x = keyed t key1 key2 in
-      Leaves (first (changeTests t v key1 key2)) t (keySlot t key1 key2) (changed cells (runNumber v) x (x .key1) (x .key2) total1 total2) r t′
 
 -- the keys of a live key's slot are that key
 pub row-changed : {cells : List ℕ} {t t′ : List ℤ} {v : VersionRecord} {key1 key2 total1 total2 : ℤ} {r : Placed}

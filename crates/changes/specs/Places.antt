@@ -7,25 +7,19 @@ use Prim.Native.Nat.{ℕ, zero, suc, _<_}
 use native.Mathlib.Omega.{arith}
 use lib.IntN.{ℤ}
 use borrow.Author.Tests.{ltb-true}
-use Rattle.laws.specs.Tests.{not-no}
-use Rattle.laws.specs.First.{none}
+use Rattle.laws.specs.TestLaws.{not-no}
+use Rattle.laws.specs.FirstLaws.{none}
 use Rattle.versions.specs.declared.VersionRecord.{VersionRecord}
 use Rattle.table.specs.Slots.{badTable, slots}
 use Rattle.table.specs.SlotLaws.{lengths}
 use Rattle.table_searches.specs.KeyLaws.{live-placed}
 use Rattle.changes.specs.declared.Placed.{Placed}
-use Rattle.changes.specs.declared.Placed.the-variants.{InSlot, Refused}
+use Rattle.changes.specs.declared.Placed.the-variants.{InSlot}
 use Rattle.changes.specs.Insert.{insertRefusal, insertAnswer}
 use Rattle.changes.specs.Update.{updateRefusal, updateAnswer}
 use Rattle.changes.specs.Delete.{deleteRefusal, deleteAnswer}
 use Rattle.changes.specs.ChangeOutcomes.{ChangeRefuses, ChangeAccepts, insert-refuses, insert-accepts, update-refuses, update-accepts, delete-refuses, delete-accepts}
-
-abbrev pub mostSlots : ℕ
-mostSlots = 1024
-
-pub data Numbers : Placed → Type 0 where
-  slot : {k : ℕ} → k < mostSlots → Numbers (InSlot k)
-  refusal : {n : ℕ} → Numbers (Refused n)
+use Rattle.changes.specs.PlacedNumbers.{mostSlots, Numbers, slot, refusal}
 
 pub slot-low : {k : ℕ} → Numbers (InSlot k) → k < mostSlots
 slot-low (slot l) = l

@@ -1,7 +1,7 @@
 -- Update: its refusals in the document's order, its answer, the words that it leaves, and the contract that says so.
 -- Assumes nothing.
 use mathlib.Core.Path.{_≡_, sym, _∙_}
-use mathlib.Core.Bool.{Bool, not}
+use mathlib.Core.Bool.{Bool}
 use mathlib.Core.List.{List, [], _∷_}
 use Prim.Native.Nat.{ℕ}
 use lib.IntN.{ℤ}
@@ -11,14 +11,11 @@ use Rattle.versions.specs.Record.{badRecord, idle, runNumber}
 use Rattle.table.specs.Slots.{badTable, putSlot}
 use Rattle.table.specs.Totals.{unlawful}
 use Rattle.table.specs.Formed.{broken}
-use Rattle.table_searches.specs.Keys.{keySlot, keyed, keyLive}
+use Rattle.table_searches.specs.Keys.{keySlot, keyed}
 use Rattle.changes.specs.declared.Placed.{Placed}
 use Rattle.changes.specs.declared.Placed.the-variants.{InSlot, Refused}
 use Rattle.changes_cells.specs.Tables.{updated}
-
--- 11: key not live (deleted or absent)
-abbrev pub notLive : List ℤ → ℤ → ℤ → Bool
-notLive t key1 key2 = not (keyLive t key1 key2)
+use Rattle.changes.specs.ChangeTests.{notLive}
 
 -- Update: 1, 2, 8, 13, 6, 11
 abbrev pub updateTests : List ℤ → VersionRecord → ℤ → ℤ → ℤ → ℤ → List (Bool × ℕ)

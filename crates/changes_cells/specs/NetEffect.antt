@@ -5,7 +5,7 @@ use mathlib.Core.Path.{_≡_, refl, ap, _∙_}
 use mathlib.Core.Bool.{true, false, not}
 use lib.IntN.{ℤ}
 use lib.Signed.{ltZ}
-use Rattle.laws.specs.Order.{leZ-refl, ltZ-leZ}
+use Rattle.laws.specs.OrderLaws.{leZ-refl, ltZ-leZ}
 use Rattle.table.specs.declared.Slot.{Slot}
 use Rattle.table.specs.Slots.{empty}
 use Rattle.table.specs.Operations.{live}

@@ -10,8 +10,8 @@ use native.Mathlib.Omega.{arith}
 use lib.Dec.{ltb}
 use lib.IntN.{ℤ}
 use borrow.Author.Tests.{ltb-true, ltb-false}
-use Rattle.laws.specs.Tests.{by-test, clash}
-use Rattle.laws.specs.First.{skip, hit, done}
+use Rattle.laws.specs.TestLaws.{by-test, clash}
+use Rattle.laws.specs.FirstLaws.{skip, hit, done}
 use Rattle.versions.specs.declared.VersionRecord.{VersionRecord}
 use Rattle.versions.specs.Record.{runNumber}
 use Rattle.table.specs.declared.Slot.{Slot}
@@ -30,7 +30,7 @@ use Rattle.changes.specs.ChangesAccepted.{free-unseen}
 use Rattle.changes.specs.ChangesRefused as refused
 use Rattle.changes.specs.ChangesRefused.{busy-seen, insert-refused, update-refused, delete-refused, insert-idle, update-idle, delete-idle}
 use Rattle.changes.specs.ChangeOutcomes.{insert-refuses, insert-accepts, update-refuses, update-accepts, delete-refuses, delete-accepts}
-use Rattle.changes.specs.Insert.{noSlot}
+use Rattle.changes.specs.ChangeTests.{noSlot}
 use Rattle.calls.specs.Calls as answer
 use Rattle.history.specs.Followed.{current}
 use Rattle.history.specs.Kinds.{accepted}

@@ -10,9 +10,10 @@ use Prim.Native.Nat.{suc}
 use native.Mathlib.Nat.{ℕ-set}
 use lib.IntN.{ℤ, _+ℤ_, +ℤ-comm, +ℤ-assoc, ℤ-set}
 use lib.ListN.{length}
-use Rattle.laws.specs.Tests.{by-test, clash}
+use Rattle.laws.specs.TestLaws.{by-test, clash}
 use Rattle.laws.specs.Repeats.{by-perm, permᴰ-length}
-use Rattle.laws.specs.Order.{eqZ, eqZ-true, eqZ-same}
+use Rattle.laws.specs.OrderLaws.{eqZ-true, eqZ-same}
+use Rattle.laws.specs.Order.{eqZ}
 use Rattle.reads.specs.declared.Seen.{Seen}
 use Rattle.reads.specs.declared.Seen.the-variants as seen
 use Rattle.reads.specs.declared.Rolled.the-variants.{Sums}

@@ -12,7 +12,7 @@ use lib.Dec.{eqb, leb}
 use lib.IntN.{ℤ}
 use lib.ListN.{length, length-append}
 use borrow.Author.Tests.{eqb-true, eqb-false, leb-true, le-leb, lt-leb}
-use Rattle.laws.specs.Tests.{by-test, clash, not-yes}
+use Rattle.laws.specs.TestLaws.{by-test, clash, not-yes}
 use Rattle.laws.specs.Repeats.{permᴰ-length}
 use Rattle.calls.specs.Seen.{Seen}
 use Rattle.calls.specs.Seen as seen

@@ -6,7 +6,7 @@ use mathlib.Core.Bool.{true, false}
 use mathlib.Core.List.{[], List·Permᴰ}
 use Prim.Native.Nat.{ℕ, suc, _-_, _≤_}
 use native.Mathlib.Omega.{arith}
-use Rattle.laws.specs.Tests.{clash}
+use Rattle.laws.specs.TestLaws.{clash}
 use Rattle.history.specs.Databases.{Database}
 use Rattle.history.specs.Followed.{Followed, starting, current, databaseAt, running, Committed, Gone}
 use Rattle.history.proofs.Rows.{rows-same}

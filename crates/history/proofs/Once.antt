@@ -6,7 +6,7 @@ use mathlib.Core.Bool.{false, _||_}
 use mathlib.Core.List.{List, [], _∷_}
 use Prim.Native.Nat.{ℕ, zero, suc, _-_}
 use lib.IntN.{ℤ}
-use Rattle.laws.specs.Tests.{by-test}
+use Rattle.laws.specs.TestLaws.{by-test}
 use Rattle.history.specs.Databases.{Database, isKey, holds, NoRepeat, without, Change, gives, takesOut, changed, madeBy}
 use Rattle.history.specs.Followed.{Followed, current, afterRuns, databaseAt, running, Heard, wentIn, beganRun, committedRun, loadedBlock, withChanges, withChange, hear}
 use Rattle.history.specs.Kinds.{Kind, World, heardOf, next, after}

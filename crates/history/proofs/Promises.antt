@@ -7,7 +7,7 @@ use mathlib.Core.List.{List, [], _∷_}
 use Prim.Native.Nat.{ℕ, suc, _<_}
 use native.Mathlib.Omega.{arith}
 use lib.IntN.{ℤ, pos}
-use Rattle.laws.specs.Tests.{by-order, clash}
+use Rattle.laws.specs.TestLaws.{by-order, clash}
 use Rattle.calls.specs.Calls as answer
 use Rattle.history.specs.Databases.{holds, NoRepeat, madeBy, rolledUp}
 use Rattle.history.specs.Followed.{freshStart, current, databaseAt, running, Committed, openVersions, hear}

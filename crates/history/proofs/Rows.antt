@@ -9,7 +9,7 @@ use native.Mathlib.Omega.{arith}
 use lib.Dec.{eqb}
 use lib.IntN.{ℤ}
 use borrow.Author.Tests.{eqb-true, eqb-false, ne-eqb}
-use Rattle.laws.specs.Tests.{by-test}
+use Rattle.laws.specs.TestLaws.{by-test}
 use Rattle.laws.specs.Repeats.{by-perm}
 use Rattle.calls.specs.Seen.{Seen}
 use Rattle.calls.specs.Seen as seen

@@ -5,7 +5,7 @@ use mathlib.Core.Bool.{true, false, not}
 use Prim.Native.Nat.{ℕ, _≤_}
 use native.Mathlib.Omega.{arith}
 use borrow.Author.Tests.{leb-true, eq-eqb, ne-eqb}
-use Rattle.laws.specs.First.{skip, hit, done}
+use Rattle.laws.specs.FirstLaws.{skip, hit, done}
 use Rattle.laws.specs.Order.{eqZ}
 use Rattle.versions.specs.Record.{largestVersion}
 use Rattle.versions.specs.RecordLaws.{sound}

@@ -7,7 +7,7 @@ use mathlib.Core.List.{List, [], _∷_, _++_}
 use Prim.Native.Nat.{ℕ, zero, suc}
 use lib.Dec.{eqb·suc-zero}
 use lib.IntN.{ℤ}
-use Rattle.laws.specs.Tests.{clash}
+use Rattle.laws.specs.TestLaws.{clash}
 use Rattle.versions.specs.declared.VersionRecord.{VersionRecord}
 use Rattle.versions.specs.declared.Numbered.{Numbered}
 use Rattle.versions.specs.RunLaws.{TurnRefuses, TurnAccepts, begin-refuses, begin-accepts, commit-refuses, commit-accepts}

@@ -12,8 +12,8 @@ use lib.Dec.{ltb}
 use lib.IntN.{ℤ, pos}
 use lib.Signed.{leZ}
 use borrow.Author.Tests.{ltb-true, ltb-false, le-leb}
-use Rattle.laws.specs.Tests.{by-test, clash}
-use Rattle.laws.specs.Order.{leZ-refl, leZ-trans, from-to}
+use Rattle.laws.specs.TestLaws.{by-test, clash}
+use Rattle.laws.specs.OrderLaws.{leZ-refl, leZ-trans, from-to}
 use Rattle.versions.specs.declared.VersionRecord.{VersionRecord}
 use Rattle.versions.specs.Record.{freshRecord, runNumber, lastRun}
 use Rattle.versions.specs.RecordLaws.{fresh-sound}

@@ -8,7 +8,7 @@ use native.Mathlib.Omega.{arith}
 use lib.Dec.{eqb}
 use lib.IntN.{ℤ}
 use borrow.Author.Tests.{eqb-true, eqb-false}
-use Rattle.laws.specs.Tests.{by-test, clash}
+use Rattle.laws.specs.TestLaws.{by-test, clash}
 use Rattle.history.specs.Followed.{Followed, current, Committed, Gone, runBegun, runCommitted}
 use Rattle.history.proofs.Rows.{rows-same}
 use Rattle.history.proofs.Views.{View}

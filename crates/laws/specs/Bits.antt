@@ -11,8 +11,9 @@ use borrow.Author.Tests.{eqb-true, eqb-false, eq-eqb, ne-eqb}
 use mir.Syntax.{w64}
 use mir.Val.{SFits, toZ, ofZ}
 use mir.ValLaws.{toZ-ofZ}
-use Rattle.laws.specs.Tests.{by-test, clash}
-use Rattle.laws.specs.Order.{eqZ, eqZ-true, eqZ-same, previous}
+use Rattle.laws.specs.TestLaws.{by-test, clash}
+use Rattle.laws.specs.OrderLaws.{eqZ-true, eqZ-same, previous}
+use Rattle.laws.specs.Order.{eqZ}
 
 pub plain : (z : ℤ) → SFits w64 z → toZ w64 (ofZ w64 z) ≡ z
 plain z f = toZ-ofZ w64 z f

@@ -1,12 +1,17 @@
 pub mod Tests
+pub mod TestLaws
 pub mod First
+pub mod FirstLaws
 pub mod Below
 pub mod Lowest
+pub mod LowestLaws
 pub mod Order
+pub mod OrderLaws
 pub mod Bits
 pub mod Sums
 pub mod Stores
 pub mod Cells
 pub mod Repeats
 pub mod Digits
+pub mod DigitLaws
 pub mod Signs

@@ -10,7 +10,7 @@ use lib.Signed.{mag, leZ, nonNeg}
 use borrow.Author.Tests.{leb-false, le-ltb}
 use mir.Syntax.{w64}
 use mir.Val.{Fits, SFits, ofZ}
-use Rattle.laws.specs.Tests.{clash}
+use Rattle.laws.specs.TestLaws.{clash}
 
 -- the word of all ones
 abbrev pub ones : ℕ

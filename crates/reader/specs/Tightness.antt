@@ -8,7 +8,8 @@ use lib.IntN.{ℤ}
 use Rattle.versions.specs.declared.VersionRecord.{VersionRecord}
 use Rattle.versions.specs.declared.Numbered.{Numbered}
 use Rattle.versions.specs.declared.Turned.{Turned}
-use Rattle.versions.specs.Runs.{OpenContract, BeginContract, CommitContract, leaving, one-opened, one-begun, one-committed}
+use Rattle.versions.specs.Runs.{OpenContract, BeginContract, CommitContract, leaving}
+use Rattle.versions.specs.RunLaws.{one-opened, one-begun, one-committed}
 use Rattle.reads.specs.declared.Seen.{Seen}
 use Rattle.reads.specs.declared.Rolled.{Rolled}
 use Rattle.reads.specs.ReadSlot.{ReadSlotContract}

@@ -1,7 +1,9 @@
 pub mod Table1
+pub mod RollUpBounds
 pub mod Table1Laws
 pub mod ShownLaws
-pub mod Session
+pub mod OpenLaws
+pub mod SessionTests
 pub mod ReadSlot
 pub mod ReadKey
 pub mod RollUp

@@ -6,7 +6,8 @@ use mathlib.Core.List.{List, _∷_, _++_}
 use Prim.Native.Nat.{ℕ, _≤_, _<_}
 use lib.IntN.{ℤ}
 use borrow.Author.Tests.{lt-ltb, le-ltb}
-use Rattle.laws.specs.First.{first, skip, hit, done}
+use Rattle.laws.specs.FirstLaws.{skip, hit, done}
+use Rattle.laws.specs.First.{first}
 use Rattle.versions.specs.declared.VersionRecord.{VersionRecord}
 use Rattle.versions.specs.Record.{badRecord}
 use Rattle.versions.specs.Sessions.{unborn, expired}
@@ -16,7 +17,7 @@ use Rattle.table_searches.specs.Keys.{keyed}
 use Rattle.reads.specs.declared.Seen.the-variants.{Refused}
 use Rattle.reads.specs.declared.Rolled.the-variants as rolled
 use Rattle.reads.specs.Table1.{shown}
-use Rattle.reads.specs.Session.{sessionTests}
+use Rattle.reads.specs.SessionTests.{sessionTests}
 use Rattle.reads.specs.ReadSlot.{readSlotRefusal, readSlotAnswer}
 use Rattle.reads.specs.ReadKey.{readKeyRefusal, readKeyAnswer}
 use Rattle.reads.specs.RollUp.{tally, seen, sums, rollUpRefusal, rollUpAnswer}

@@ -3,39 +3,28 @@
 use mathlib.Core.Path.{_≡_, refl}
 use mathlib.Core.Bool.{true, false}
 use mathlib.Core.List.{List}
-use Prim.Native.Nat.{ℕ, zero, suc, _*_, _≤_, _<_}
+use Prim.Native.Nat.{ℕ, zero, suc, _≤_, _<_}
 use native.Mathlib.Omega.{arith}
-use lib.IntN.{ℤ, natAbs}
-use mir.Syntax.{w64}
-use mir.Val.{SFits}
-use Rattle.laws.specs.Tests.{by-test}
+use lib.IntN.{ℤ}
+use Rattle.laws.specs.TestLaws.{by-test}
 use Rattle.laws.specs.Order.{eqZ}
 use Rattle.laws.specs.Sums.{sum-within, small-fits}
 use Rattle.versions.specs.declared.VersionRecord.{VersionRecord}
 use Rattle.table.specs.declared.Slot.{Slot}
 use Rattle.table.specs.Slots.{slotAt}
-use Rattle.table.specs.TotalLaws.{Given, largestTotal, lawful-within}
+use Rattle.table.specs.TotalLaws.{lawful-within}
+use Rattle.table.specs.Totals.{Given, largestTotal}
 use Rattle.table.specs.Formed.{wellFormed}
 use Rattle.reads.specs.declared.Seen.{Seen}
 use Rattle.reads.specs.declared.Seen.the-variants.{Row, NoRow, Refused}
 use Rattle.reads.specs.Table1.{shown}
 use Rattle.reads.specs.ShownLaws.{shown-own}
-use Rattle.reads.specs.Table1Laws.{LawfulRow, shown-lawful}
+use Rattle.reads.specs.Table1Laws.{shown-lawful}
+use Rattle.reads.specs.RollUpBounds.{LawfulRow, Bounded, SumsFit}
 use Rattle.reads.specs.RollUp.{Tally, counted, tallied, tally, seen}
-
--- a tally of at most k rows
-pub record Bounded (k : ℕ) (n : Tally) : Type 0 where
-  pub count : n .count ≤ k
-  pub total1 : natAbs (n .total1) ≤ largestTotal * k
-  pub total2 : natAbs (n .total2) ≤ largestTotal * k
 
 pub bounded-more : {k m : ℕ} {n : Tally} → k ≤ m → Bounded k n → Bounded m n
 bounded-more h b = record { count = omega arith; total1 = omega arith; total2 = omega arith }
-
--- a tally of at most 1,024 rows fits
-pub record SumsFit (n : Tally) : Type 0 where
-  pub total1 : SFits w64 (n .total1)
-  pub total2 : SFits w64 (n .total2)
 
 pub sums-fit : {n : Tally} → Bounded 1024 n → SumsFit n
 sums-fit {n} b = record { total1 = small-fits (n .total1) (omega arith); total2 = small-fits (n .total2) (omega arith) }

@@ -8,8 +8,8 @@ use Prim.Native.Nat.{ℕ}
 use native.Mathlib.Omega.{arith}
 use lib.IntN.{ℤ, pos}
 use lib.Signed.{leZ}
-use Rattle.laws.specs.Tests.{not-no}
-use Rattle.laws.specs.Order.{from-to, leZ-trans}
+use Rattle.laws.specs.TestLaws.{not-no}
+use Rattle.laws.specs.OrderLaws.{from-to, leZ-trans}
 use Rattle.versions.specs.declared.VersionRecord.{VersionRecord}
 use Rattle.versions.specs.Record.{badRecord, lastRun}
 use Rattle.versions.specs.RecordLaws.{known, last-low}

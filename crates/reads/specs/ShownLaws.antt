@@ -5,8 +5,9 @@ use mathlib.Core.Bool.{Bool, true, false, cond}
 use lib.Dec.{eqb}
 use lib.IntN.{ℤ}
 use lib.Signed.{leZ}
-use Rattle.laws.specs.Tests.{by-test}
-use Rattle.laws.specs.Order.{eqZ, eqZ-true}
+use Rattle.laws.specs.TestLaws.{by-test}
+use Rattle.laws.specs.OrderLaws.{eqZ-true}
+use Rattle.laws.specs.Order.{eqZ}
 use Rattle.laws.specs.Cells.{cellAt}
 use Rattle.table.specs.declared.Slot.{Slot}
 use Rattle.table.specs.Operations.{emptyOperation, column}

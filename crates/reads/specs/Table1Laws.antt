@@ -4,19 +4,18 @@ use mathlib.Core.Path.{_≡_, refl}
 use mathlib.Core.Bool.{true, false}
 use lib.IntN.{ℤ}
 use lib.Signed.{leZ}
-use Rattle.laws.specs.Tests.{clash}
+use Rattle.laws.specs.TestLaws.{clash}
 use Rattle.versions.specs.declared.VersionRecord.{VersionRecord}
 use Rattle.table.specs.declared.Slot.{Slot}
 use Rattle.table.specs.Slots.{empty}
 use Rattle.table.specs.Operations.{insertOperation, updateOperation, deleteOperation, live}
 use Rattle.table.specs.OperationLaws.{live-cases, column-insert, column-update, column-delete}
-use Rattle.table.specs.TotalLaws.{Given}
 use Rattle.table.specs.Formed.{wellFormed}
 use Rattle.table.specs.FormedLaws.{formed-cases}
-use Rattle.reads.specs.declared.Seen.{Seen}
-use Rattle.reads.specs.declared.Seen.the-variants.{Row, NoRow, Refused}
+use Rattle.reads.specs.declared.Seen.the-variants.{NoRow}
 use Rattle.reads.specs.Table1.{currentRow, oldRow, shown}
 use Rattle.reads.specs.ShownLaws.{shown-cases, shown-own}
+use Rattle.reads.specs.RollUpBounds.{LawfulRow}
 
 -- ---- run number ≤ session: current totals, or no row if deleted
 pub shown-current : (s : ℤ) (x : Slot) → leZ (x .run) s ≡ true → live x ≡ true → shown s x ≡ currentRow x
@@ -44,12 +43,6 @@ shown-inserted s x h e = rw (h, column-insert x e) refl
 -- ---- an empty slot is no row
 pub shown-empty : (s : ℤ) → shown s empty ≡ NoRow
 shown-empty s = shown-own (λ r. r ≡ NoRow) s empty (λ u a b. clash refl u) refl
-
--- ---- a row that is shown of a well formed slot has lawful totals
-abbrev pub LawfulRow : Seen → Type 0
-LawfulRow (Row key1 key2 total1 total2) = Given total1 total2
-LawfulRow NoRow = Unit {0}
-LawfulRow (Refused n) = Unit {0}
 
 pub shown-lawful : (s : ℤ) (x : Slot) (v : VersionRecord) → wellFormed x v ≡ true → LawfulRow (shown s x)
 shown-lawful s x v w =

@@ -9,12 +9,11 @@ ghost use Rattle.laws.specs.Cells.{columns, cellAt};
 ghost use Rattle.versions.specs.Record.{badRecord};
 ghost use Rattle.table.specs.Formed.{broken};
 ghost use Rattle.reads.specs.Table1.{table1, shown};
-ghost use Rattle.reads.specs.Table1Laws.{LawfulRow};
-ghost use Rattle.reads.specs.Session.{sessionRefusal};
+ghost use Rattle.reads.specs.RollUpBounds.{LawfulRow, Bounded};
+ghost use Rattle.reads.specs.SessionTests.{sessionRefusal};
 ghost use Rattle.reads.specs.ReadSlot.{ReadSlotContract};
 ghost use Rattle.reads.specs.ReadKey.{ReadKeyContract};
 ghost use Rattle.reads.specs.RollUp.{tallied, RollUpContract};
-ghost use Rattle.reads.specs.RollUpLaws.{Bounded};
 use table::Slot;
 use versions::VersionRecord;
 

@@ -1,31 +1,19 @@
 -- What a line asks, in the order in which the code goes: the first byte is the letter, the second a space, and what follows is
 -- as many numbers as the letter has. At most one letter's test holds. Assumes nothing.
 use mathlib.Core.Path.{_≡_, refl, sym}
-use mathlib.Core.Bool.{true, false, cond, and-false, and-true}
+use mathlib.Core.Bool.{true, false, and-false, and-true}
 use mathlib.Core.List.{List, [], _∷_}
 use Prim.Native.Nat.{ℕ, suc, _≤_}
 use native.Mathlib.Omega.{arith}
 use lib.Dec.{eqb, eqb·suc-suc}
 use lib.ListN.{length, getD, drop}
 use borrow.Author.Tests.{eqb-true, ne-eqb}
-use Rattle.laws.specs.Tests.{by-test, clash}
-use Rattle.steps_commands.specs.declared.Command.{Command}
-use Rattle.steps_commands.specs.declared.Command.the-variants.{Begin, Commit, Insert, Update, Delete, Read, Bad}
+use Rattle.laws.specs.TestLaws.{by-test, clash}
+use Rattle.steps_commands.specs.declared.Command.the-variants.{Insert, Update, Delete, Read, Bad}
 use Rattle.steps_commands.specs.Commands.{spaceByte, fields, commandOf, asked}
-use Rattle.steps_commands.specs.CountLaws.{twoOf, threeOf, fourOf, withTwoOf, withThreeOf, withFourOf, two-asked, three-asked, four-asked}
+use Rattle.steps_commands.specs.CountLaws.{two-asked, three-asked, four-asked}
 use Rattle.steps_commands.specs.FieldLaws.{some-fields}
-
--- a letter alone, and one with numbers
-unfoldable pub bareOf : ℕ → Command
-bareOf letter = cond (eqb letter 66) Begin (cond (eqb letter 67) Commit Bad)
-
-unfoldable pub numberedOf : ℕ → List (List ℕ) → Command
-numberedOf letter fs =
-    cond (eqb letter 73) (withFourOf (fourOf fs) Insert)
-    (cond (eqb letter 85) (withFourOf (fourOf fs) Update)
-    (cond (eqb letter 68) (withTwoOf (twoOf fs) Delete)
-    (cond (eqb letter 82) (withThreeOf (threeOf fs) Read)
-    Bad)))
+use Rattle.steps_commands.specs.CommandParts.{bareOf, numberedOf}
 
 -- a letter alone
 command-bare : (b : ℕ) → commandOf ((b ∷ []) ∷ []) ≡ bareOf b

@@ -2,7 +2,6 @@
 -- what follows that space. By recursion on the line, with the end as any place that meets the description of the lowest.
 -- Assumes nothing.
 use mathlib.Core.Path.{_≡_, refl, ap}
-use mathlib.Core.Bool.{Bool, cond}
 use mathlib.Core.List.{List, [], _∷_}
 use Prim.Native.Nat.{ℕ, zero, suc, _+_, _≤_, _<_, zero-le, suc-le-suc}
 use native.Mathlib.Nat.{le-of-suc-le-suc}
@@ -12,22 +11,16 @@ use lib.Dec.{eqb, ltb}
 use lib.IntN.{ℤ}
 use lib.ListN.{length, getD, take, drop}
 use borrow.Author.Tests.{ltb-true, ltb-false, eqb-true}
-use Rattle.laws.specs.Tests.{by-test}
-use Rattle.laws.specs.Lowest.{lowest, Lowest, lowest-is}
+use Rattle.laws.specs.TestLaws.{by-test}
+use Rattle.laws.specs.LowestLaws.{lowest-is}
+use Rattle.laws.specs.Lowest.{Lowest}
 use Rattle.steps_commands.specs.declared.Number.{Number}
 use Rattle.steps_commands.specs.declared.Number.the-variants as number
-use Rattle.steps_commands.specs.declared.First.{First}
 use Rattle.steps_commands.specs.declared.First.the-variants as first
 use Rattle.steps_commands.specs.Numerals.{minusByte, isDigit, numberOf}
 use Rattle.steps_commands.specs.NumeralLaws.{other-byte}
 use Rattle.steps_commands.specs.Commands.{spaceByte, fields}
-
-abbrev pub spaceAt : List ℕ → ℕ → Bool
-spaceAt line k = eqb (getD line k 0) spaceByte
-
--- where the first field ends
-unfoldable pub firstEnd : List ℕ → ℕ
-firstEnd line = lowest (spaceAt line) (length line)
+use Rattle.steps_commands.specs.Fields.{spaceAt, firstEnd, followed, firstOf, oneOf, byNumber, headed, byFirst}
 
 pub firstEnd-is : (line : List ℕ) → Lowest (spaceAt line) (length line) (firstEnd line)
 unfolding firstEnd
@@ -67,15 +60,6 @@ some-fields (b ∷ bs) =
     (λ y. record { head = []; rest = fields bs; are = rw y refl })
     (λ n. record { head = b ∷ s .head; rest = s .rest; are = rw (n, s .are) refl })
 
--- ---- what the code reads of a line
--- the number of the first field, and the place after the space that follows it
-abbrev pub followed : Number → ℕ → First
-followed (number.Is z) after = first.Number z after
-followed number.Bad after = first.Bad
-
-unfoldable pub firstOf : List ℕ → First
-firstOf line = cond (ltb (firstEnd line) (length line)) (followed (numberOf (take (firstEnd line) line)) (firstEnd line + 1)) first.Bad
-
 -- and back, from what is read to the tests
 pub record FirstIs (line : List ℕ) (z : ℤ) (after : ℕ) : Type 0 where
   pub ends : firstEnd line < length line
@@ -99,41 +83,22 @@ first-is line {z} {after} e =
 pub first-within : (line : List ℕ) {z : ℤ} {after : ℕ} → firstOf line ≡ first.Number z after → after ≤ length line
 first-within line e = let f = first-is line e in omega arith
 
--- what is made of a first number and the fields after it
+-- how the code makes it, where a last field makes nothing
 module _ {A : Type 0} (bad : A) (rest : ℤ → List (List ℕ) → A) where
-  abbrev pub byNumber : Number → List (List ℕ) → A
-  byNumber (number.Is z) fs = rest z fs
-  byNumber number.Bad fs = bad
-
-  abbrev pub headed : List (List ℕ) → A
-  headed [] = bad
-  headed (f ∷ fs) = byNumber (numberOf f) fs
-
-  -- and how the code makes it, where a last field makes nothing
-  abbrev pub byFirst : List ℕ → First → A
-  byFirst line (first.Number z after) = rest z (fields (drop after line))
-  byFirst line first.Bad = bad
-
-  pub by-first : ((z : ℤ) → rest z [] ≡ bad) → (line : List ℕ) → headed (fields line) ≡ byFirst line (firstOf line)
+  pub by-first : ((z : ℤ) → rest z [] ≡ bad) → (line : List ℕ) → headed bad rest (fields line) ≡ byFirst bad rest line (firstOf line)
   unfolding firstOf
   by-first last line =
       by-test (ltb (firstEnd line) (length line))
       (λ y. rw (y, split line (firstEnd line) (firstEnd-is line) (ltb-true _ _ y)) (more (numberOf (take (firstEnd line) line))))
       (λ n. rw (n, whole line (firstEnd line) (firstEnd-is line) (ltb-false _ _ n)) (none (numberOf line)))
     where
-      more : (x : Number) → byNumber x (fields (drop (suc (firstEnd line)) line)) ≡ byFirst line (followed x (firstEnd line + 1))
+      more : (x : Number) → byNumber bad rest x (fields (drop (suc (firstEnd line)) line)) ≡ byFirst bad rest line (followed x (firstEnd line + 1))
       more (number.Is z) = rw add-one refl
       more number.Bad = refl
 
-      none : (x : Number) → byNumber x [] ≡ bad
+      none : (x : Number) → byNumber bad rest x [] ≡ bad
       none (number.Is z) = last z
       none number.Bad = refl
-
--- the only field is a number: so is the line, since a space is no part of one
-abbrev pub oneOf : List (List ℕ) → Number
-oneOf [] = number.Bad
-oneOf (f ∷ []) = numberOf f
-oneOf (f ∷ g ∷ gs) = number.Bad
 
 pub one-number : (line : List ℕ) → numberOf line ≡ oneOf (fields line)
 one-number line =

@@ -11,7 +11,7 @@ use lib.IntN.{ℤ}
 use lib.ListN.{length, getD, take, drop, length-drop}
 use lib.Seq.{length-take-le, take-all}
 use borrow.Author.Tests.{leb-true, leb-false}
-use Rattle.laws.specs.Tests.{by-test}
+use Rattle.laws.specs.TestLaws.{by-test}
 use Rattle.steps_commands.specs.declared.Number.the-variants as number
 use Rattle.steps_commands.specs.declared.First.{First}
 use Rattle.steps_commands.specs.declared.First.the-variants as first
@@ -23,27 +23,13 @@ use Rattle.steps_commands.specs.Numerals.{numberOf}
 use Rattle.steps_commands.specs.ReadDigits.{many-digits}
 use Rattle.steps_commands.specs.NumeralLaws.{no-number}
 use Rattle.steps_commands.specs.Commands.{spaceByte, fields, asked}
-use Rattle.steps_commands.specs.FieldLaws.{firstEnd, firstOf, first-is, byFirst, one-number}
-use Rattle.steps_commands.specs.CountLaws.{thenOne, thenTwo, thenThree, twoOf, threeOf, fourOf, two-first, three-first, four-first}
-use Rattle.steps_commands.specs.CommandLaws.{numberedOf, numbered-line, other-line}
-
--- a letter, and four numbers of 20 bytes with a space before each
-abbrev pub longestCommand : ℕ
-longestCommand = 85
-
--- a minus and 19 digits
-abbrev pub longestNumber : ℕ
-longestNumber = 20
-
--- and so many numbers, with a space between each two
-abbrev longestTwo : ℕ
-longestTwo = longestNumber + 1 + longestNumber
-
-abbrev longestThree : ℕ
-longestThree = longestNumber + 1 + longestTwo
-
-abbrev longestFour : ℕ
-longestFour = longestNumber + 1 + longestThree
+use Rattle.steps_commands.specs.FieldLaws.{first-is, one-number}
+use Rattle.steps_commands.specs.Fields.{byFirst, firstEnd, firstOf}
+use Rattle.steps_commands.specs.CountLaws.{two-first, three-first, four-first}
+use Rattle.steps_commands.specs.Counts.{thenOne, thenTwo, thenThree, twoOf, threeOf, fourOf}
+use Rattle.steps_commands.specs.CommandLaws.{numbered-line, other-line}
+use Rattle.steps_commands.specs.CommandParts.{numberedOf}
+use Rattle.steps_commands.specs.Longest.{longestCommand, longestNumber, longestTwo, longestThree, longestFour}
 
 pub long-number : (bs : List ℕ) → longestNumber < length bs → numberOf bs ≡ number.Bad
 long-number [] l = absurd (omega arith)

@@ -10,18 +10,12 @@ use lib.Dec.{leb, ltb, eqb}
 use lib.IntN.{ℤ, pos, negsuc, negℤ, _-ℤ_}
 use lib.ListN.{length, getD, drop}
 use borrow.Author.Tests.{lt-ltb, le-leb}
-use Rattle.laws.specs.Tests.{by-test, clash}
-use Rattle.steps_commands.specs.declared.Number.{Number}
+use Rattle.laws.specs.TestLaws.{by-test, clash}
 use Rattle.steps_commands.specs.declared.Number.the-variants as number
-use Rattle.steps_commands.specs.declared.Digits.{Digits}
-use Rattle.steps_commands.specs.declared.Digits.the-variants.{Make, Bad}
-use Rattle.steps_commands.specs.Numerals.{minusByte, mostDigits, signedLimit, isDigit, allDigits, decimalFrom, fewDigits, unsignedOf, minusOf, numberOf}
-use Rattle.steps_commands.specs.ReadDigits.{digitsOf, digits-make, other-digits, other-at}
-
--- ---- by the digits: with a minus and without, each has its limit
-abbrev pub limited : (ℕ → Bool) → (ℕ → ℤ) → Digits → Number
-limited within signed (Make n) = cond (within n) (number.Is (signed n)) number.Bad
-limited within signed Bad = number.Bad
+use Rattle.steps_commands.specs.declared.Digits.the-variants.{Bad}
+use Rattle.steps_commands.specs.Numerals.{minusByte, mostDigits, signedLimit, isDigit, allDigits, decimalFrom, fewDigits, unsignedOf, minusOf, numberOf, limited}
+use Rattle.steps_commands.specs.ReadDigits.{digits-make, other-digits, other-at}
+use Rattle.steps_commands.specs.DigitsRead.{digitsOf}
 
 limited-is : (within : ℕ → Bool) (signed : ℕ → ℤ) (bs : List ℕ)
     → cond (fewDigits bs && within (decimalFrom 0 bs)) (number.Is (signed (decimalFrom 0 bs))) number.Bad ≡ limited within signed (digitsOf bs)

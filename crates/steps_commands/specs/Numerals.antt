@@ -3,11 +3,14 @@ use mathlib.Core.Bool.{Bool, true, cond, _&&_}
 use mathlib.Core.List.{List, [], _∷_}
 use Prim.Native.Nat.{ℕ, _+_, _*_, _-_}
 use lib.Dec.{eqb, ltb, leb}
-use lib.IntN.{pos, negℤ}
+use lib.IntN.{pos, negℤ, ℤ}
 use lib.ListN.{length}
 use Rattle.laws.specs.Tests.{all}
 use Rattle.steps_commands.specs.declared.Number.{Number}
 use Rattle.steps_commands.specs.declared.Number.the-variants.{Is, Bad}
+use Rattle.steps_commands.specs.declared.Number.the-variants as number
+use Rattle.steps_commands.specs.declared.Digits.{Digits}
+use Rattle.steps_commands.specs.declared.Digits.the-variants.{Make, Bad}
 
 -- the bytes '-', '0' and '9'
 abbrev pub minusByte : ℕ
@@ -54,3 +57,8 @@ minusOf bs = cond (fewDigits bs && leb (decimalFrom 0 bs) signedLimit) (Is (neg�
 unfoldable pub numberOf : List ℕ → Number
 numberOf [] = Bad
 numberOf (b ∷ bs) = cond (eqb b minusByte) (minusOf bs) (unsignedOf (b ∷ bs))
+
+-- ---- by the digits: with a minus and without, each has its limit
+abbrev pub limited : (ℕ → Bool) → (ℕ → ℤ) → Digits → Number
+limited within signed (Make n) = cond (within n) (number.Is (signed n)) number.Bad
+limited within signed Bad = number.Bad

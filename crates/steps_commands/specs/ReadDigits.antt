@@ -1,7 +1,7 @@
 -- What 1 to 19 digits make, as the code makes it: digit after digit from the left. What the digits that are left make after
 -- those passed stays the same, and i digits make less than 10^i. Assumes nothing.
 use mathlib.Core.Path.{_≡_, refl, sym}
-use mathlib.Core.Bool.{Bool, true, false, cond}
+use mathlib.Core.Bool.{true, false}
 use mathlib.Core.List.{List, [], _∷_}
 use Prim.Native.Nat.{ℕ, zero, suc, _+_, _*_, _-_, _^_, _≤_, _<_}
 use native.Mathlib.Nat.{le-of-suc-le-suc, pow-suc, pow-le-pow-right}
@@ -11,17 +11,10 @@ use lib.Dec.{leb}
 use lib.ListN.{length, getD, drop, drop-of-length-le}
 use lib.Seq.{drop-cons}
 use borrow.Author.Tests.{le-leb, lt-leb, leb-true}
-use Rattle.laws.specs.Tests.{all-no, all-yes, by-test, clash}
-use Rattle.steps_commands.specs.declared.Digits.{Digits}
+use Rattle.laws.specs.TestLaws.{all-no, all-yes, by-test, clash}
 use Rattle.steps_commands.specs.declared.Digits.the-variants.{Make, Bad}
-use Rattle.steps_commands.specs.Numerals.{zeroByte, nineByte, mostDigits, isDigit, allDigits, decimalFrom, fewDigits}
-
-unfoldable pub digitsOf : List ℕ → Digits
-digitsOf bs = cond (fewDigits bs) (Make (decimalFrom 0 bs)) Bad
-
--- one of the three tests fails, or all hold
-abbrev digitTests : List ℕ → List Bool
-digitTests bs = leb 1 (length bs) ∷ leb (length bs) mostDigits ∷ allDigits bs ∷ []
+use Rattle.steps_commands.specs.Numerals.{zeroByte, nineByte, mostDigits, isDigit, allDigits, decimalFrom}
+use Rattle.steps_commands.specs.DigitsRead.{digitsOf, digitTests}
 
 digits-bad : (bs : List ℕ) (k : ℕ) → getD (digitTests bs) k true ≡ false → Bad ≡ digitsOf bs
 unfolding digitsOf

@@ -4,11 +4,11 @@ ghost use mathlib.Core.Path.{_≡_};
 ghost use mathlib.Core.Bool.{true};
 ghost use Prim.Native.Nat.{_-_, _<_};
 ghost use Rattle.steps_commands.specs.Numerals.{zeroByte, isDigit, unsignedOf, minusOf, numberOf};
-ghost use Rattle.steps_commands.specs.ReadDigits.{digitsOf};
+ghost use Rattle.steps_commands.specs.DigitsRead.{digitsOf};
 ghost use Rattle.steps_commands.specs.Commands.{fields, asked};
-ghost use Rattle.steps_commands.specs.FieldLaws.{firstEnd, firstOf};
-ghost use Rattle.steps_commands.specs.CountLaws.{twoOf, threeOf, fourOf, withTwoOf, withThreeOf, withFourOf};
-ghost use Rattle.steps_commands.specs.CommandLaws.{bareOf, numberedOf};
+ghost use Rattle.steps_commands.specs.Fields.{firstEnd, firstOf};
+ghost use Rattle.steps_commands.specs.Counts.{twoOf, threeOf, fourOf, withTwoOf, withThreeOf, withFourOf};
+ghost use Rattle.steps_commands.specs.CommandParts.{bareOf, numberedOf};
 ghost use Rattle.steps_commands.specs.declared.Command.the-variants.{Insert, Update, Delete, Read};
 
 // The longest line that asks anything: a letter, and four numbers of 20 bytes with a space before each.

@@ -5,7 +5,7 @@ use mathlib.Core.List.{List}
 use Prim.Native.Nat.{ℕ, _+_, _≤_}
 use lib.IntN.{ℤ}
 use lib.ListN.{length, take}
-use Rattle.steps_commands.specs.LongLineLaws.{longestCommand}
+use Rattle.steps_commands.specs.Longest.{longestCommand}
 use Rattle.steps_lines.specs.declared.Progress.{Progress}
 use Rattle.steps_lines.specs.LineSessions.{LineSession}
 

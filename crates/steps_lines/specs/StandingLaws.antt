@@ -10,7 +10,7 @@ use lib.IntN.{ℤ}
 use lib.ListN.{length, take, set, getD, length-append, length-set}
 use lib.Seq.{take-all, take-suc, take-set-le, take-append-le, length-take-le, getD-set-same}
 use borrow.Author.Tests.{leb-true, leb-false}
-use Rattle.laws.specs.Tests.{by-test}
+use Rattle.laws.specs.TestLaws.{by-test}
 use Rattle.steps_commands.specs.Commands.{asked}
 use Rattle.steps_commands.specs.LongLineLaws as long
 use Rattle.steps_replies.specs.Written.{longestLine}

@@ -12,7 +12,7 @@ use lib.IntN.{ℤ, pos, negsuc, natAbs}
 use lib.Signed.{leZ}
 use lib.ListN.{length, length-append}
 use borrow.Author.Tests.{lt-ltb, le-ltb, le-leb}
-use Rattle.laws.specs.Tests.{by-test, clash}
+use Rattle.laws.specs.TestLaws.{by-test, clash}
 use Rattle.table.specs.Fits.{Below}
 use Rattle.steps_commands.specs.Numerals.{minusByte, zeroByte}
 use Rattle.steps_replies.specs.Decimals.{mostWritten, decimal, numeral}

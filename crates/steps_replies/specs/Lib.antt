@@ -3,6 +3,7 @@ pub mod Replies
 pub mod Written
 pub mod DecimalLaws
 pub mod LineLaws
+pub mod Puts
 pub mod WrittenLaws
 pub mod ReadBack
 pub mod OutputLaws

@@ -12,7 +12,7 @@ use lib.ListN.{length, getD, length-append}
 use borrow.Author.Tests.{ltb-true, lt-ltb, le-leb, ne-eqb}
 use mir.Syntax.{w64}
 use mir.Val.{SFits}
-use Rattle.laws.specs.Tests.{by-test, clash}
+use Rattle.laws.specs.TestLaws.{by-test, clash}
 use Rattle.steps_commands.specs.declared.Number.the-variants.{Is}
 use Rattle.steps_commands.specs.Numerals.{minusByte, zeroByte, nineByte, isDigit, allDigits, decimalFrom, numberOf}
 use Rattle.steps_commands.specs.ReadDigits.{digit-byte}

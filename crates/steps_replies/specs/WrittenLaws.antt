@@ -11,17 +11,9 @@ use lib.Dec.{leb}
 use lib.ListN.{length, length-append}
 use lib.Seq.{sets, length-sets}
 use borrow.Author.Tests.{leb-true, leb-false, le-leb, lt-leb}
-use Rattle.laws.specs.Tests.{by-test, not-yes, not-no}
+use Rattle.laws.specs.TestLaws.{by-test, not-yes, not-no}
 use Rattle.steps_replies.specs.Written.{longestLine, hasRoom, bufferAfter, placeAfter, Written}
-
--- there is room for some bytes
-pub record Room (buffer : List ℕ) (place : ℕ) (bytes : List ℕ) : Type 0 where
-  pub fits : place + length bytes ≤ length buffer
-
--- bytes were put from a place on, and the place after them was answered
-pub record Put (buffer : List ℕ) (place : ℕ) (bytes : List ℕ) (r : ℕ) (buffer′ : List ℕ) : Type 0 where
-  pub answer : r ≡ place + length bytes
-  pub stored : buffer′ ≡ sets buffer place bytes
+use Rattle.steps_replies.specs.Puts.{Room, Put}
 
 -- ---- bytes after bytes
 pub nothing-put : {buffer : List ℕ} {place : ℕ} → Put buffer place [] place buffer

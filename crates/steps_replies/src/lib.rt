@@ -10,7 +10,7 @@ ghost use Rattle.steps_commands.specs.Commands.{spaceByte};
 ghost use Rattle.steps_replies.specs.Decimals.{numeral};
 ghost use Rattle.steps_replies.specs.Replies.{lineOf, refusedLine, versionLine, slotLine, rowLine, badLine};
 ghost use Rattle.steps_replies.specs.Written.{longestLine, Written};
-ghost use Rattle.steps_replies.specs.WrittenLaws.{Room, Put};
+ghost use Rattle.steps_replies.specs.Puts.{Room, Put};
 use changes::Placed;
 use reads::Seen;
 use steps_commands::MINUS;

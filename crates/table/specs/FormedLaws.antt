@@ -7,9 +7,11 @@ use lib.IntN.{ℤ, pos, negsuc}
 use lib.Signed.{leZ}
 use native.Mathlib.Omega.{arith}
 use borrow.Author.Tests.{leb-true, eqb-false}
-use Rattle.laws.specs.Tests.{all, all-at, all-no, by-test, clash, not-no}
-use Rattle.laws.specs.Order.{eqZ, eqZ-true, fromTo, from-to, leZ-trans}
-use Rattle.laws.specs.Lowest.{none-passes, all-fail}
+use Rattle.laws.specs.TestLaws.{all-at, all-no, by-test, clash, not-no}
+use Rattle.laws.specs.Tests.{all}
+use Rattle.laws.specs.OrderLaws.{eqZ-true, from-to, leZ-trans}
+use Rattle.laws.specs.Order.{eqZ, fromTo}
+use Rattle.laws.specs.LowestLaws.{none-passes, all-fail}
 use Rattle.versions.specs.declared.VersionRecord.{VersionRecord}
 use Rattle.versions.specs.Record.{lastRun}
 use Rattle.table.specs.declared.Slot.{Slot}

@@ -1,15 +1,15 @@
 -- The laws of the operation word: its column and live go by it alone, and what they are at each operation. Assumes nothing.
 use mathlib.Core.Path.{_≡_, refl}
-use mathlib.Core.Bool.{Bool, true, false, _||_}
+use mathlib.Core.Bool.{true, false}
 use Prim.Native.Nat.{_<_}
 use lib.Dec.{lit<}
-use lib.IntN.{ℤ}
-use Rattle.laws.specs.Tests.{by-test, clash}
-use Rattle.laws.specs.Order.{eqZ, eqZ-true}
+use Rattle.laws.specs.TestLaws.{by-test, clash}
+use Rattle.laws.specs.OrderLaws.{eqZ-true}
+use Rattle.laws.specs.Order.{eqZ}
 use Rattle.laws.specs.Cells.{columns}
 use Rattle.table.specs.declared.Slot.{Slot}
 use Rattle.table.specs.Slots.{empty}
-use Rattle.table.specs.Operations.{emptyOperation, insertOperation, updateOperation, deleteOperation, column, live}
+use Rattle.table.specs.Operations.{emptyOperation, insertOperation, updateOperation, deleteOperation, column, live, liveWord}
 
 pub column-below : (x : Slot) → column x < columns
 unfolding column
@@ -26,10 +26,6 @@ column-same x y e = rw e refl
 pub live-same : (x y : Slot) → x .operation ≡ y .operation → live x ≡ live y
 unfolding live
 live-same x y e = rw e refl
-
--- live, of the operation word alone
-abbrev pub liveWord : ℤ → Bool
-liveWord z = eqZ z insertOperation || eqZ z updateOperation
 
 pub live-word : (x : Slot) → live x ≡ liveWord (x .operation)
 unfolding live

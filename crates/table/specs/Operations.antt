@@ -29,3 +29,7 @@ column x =
 -- a slot is live if its operation is 1 or 2
 unfoldable pub live : Slot → Bool
 live x = eqZ (x .operation) insertOperation || eqZ (x .operation) updateOperation
+
+-- live, of the operation word alone
+abbrev pub liveWord : ℤ → Bool
+liveWord z = eqZ z insertOperation || eqZ z updateOperation

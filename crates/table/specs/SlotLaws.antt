@@ -11,7 +11,8 @@ use lib.IntN.{ℤ, pos}
 use lib.ListN.{length, getD, getD-replicate, length-replicate, replicate, List·getD-eq-default}
 use lib.Seq.{sets, length-sets}
 use borrow.Author.Tests.{eqb-true, eqb-false, ltb-false, ltb-true, eq-eqb, ne-eqb, le-ltb}
-use Rattle.laws.specs.Tests.{any, none-at, not-no, by-test}
+use Rattle.laws.specs.TestLaws.{none-at, not-no, by-test}
+use Rattle.laws.specs.Tests.{any}
 use Rattle.laws.specs.Stores.{sets-before, sets-past, sets-within, by-groups}
 use Rattle.table.specs.declared.Slot.{Slot}
 use Rattle.table.specs.Slots.{slotWords, slots, badTable, wordsOf, empty, word, slotAt, putSlot, freshTable}

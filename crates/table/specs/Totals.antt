@@ -1,7 +1,9 @@
 -- Which totals are lawful, and refusal 13. Only this crate unfolds the two; what is above uses the laws. Assumes nothing.
-use mathlib.Core.Bool.{Bool, not, _&&_}
+use mathlib.Core.Bool.{Bool, not, _&&_, true}
 use lib.IntN.{ℤ, pos, negsuc}
 use Rattle.laws.specs.Order.{fromTo}
+use mathlib.Core.Path.{_≡_}
+use Prim.Native.Nat.{ℕ}
 
 -- a total is from −10^15 to 10^15
 abbrev pub lowestTotal : ℤ
@@ -16,3 +18,12 @@ lawful z = fromTo lowestTotal highestTotal z
 -- 13: a given total is out of range
 unfoldable pub unlawful : ℤ → ℤ → Bool
 unlawful a b = not (lawful a && lawful b)
+
+-- ---- what was not refused is lawful
+pub record Given (a b : ℤ) : Type 0 where
+  pub total1 : lawful a ≡ true
+  pub total2 : lawful b ≡ true
+
+-- no lawful total is further from 0 than this: a sum of 1,024 of them fits a word
+abbrev pub largestTotal : ℕ
+largestTotal = 1000000000000000

@@ -3,13 +3,14 @@
 use mathlib.Core.Path.{_≡_, refl}
 use mathlib.Core.Bool.{true, false}
 use mathlib.Core.List.{List}
-use Prim.Native.Nat.{ℕ, _+_, _<_}
+use Prim.Native.Nat.{ℕ, _+_}
 use lib.IntN.{ℤ}
 use lib.Signed.{ltZ}
-use Rattle.laws.specs.Tests.{all-at, all-yes, by-test, clash}
-use Rattle.laws.specs.Order.{eqZ-true, eqZ-same}
+use Rattle.laws.specs.TestLaws.{all-at, all-yes, by-test, clash}
+use Rattle.laws.specs.OrderLaws.{eqZ-true, eqZ-same}
 use Rattle.laws.specs.Below.{four-more}
-use Rattle.laws.specs.Lowest.{Lowest, lowest-is}
+use Rattle.laws.specs.LowestLaws.{lowest-is}
+use Rattle.laws.specs.Lowest.{Lowest}
 use Rattle.versions.specs.declared.VersionRecord.{VersionRecord}
 use Rattle.versions.specs.Record.{runNumber}
 use Rattle.table.specs.declared.Slot.{Slot}
@@ -19,6 +20,7 @@ use Rattle.table.specs.OperationLaws.{dead-empty, dead-delete}
 use Rattle.table.specs.Formed.{allZeros, wellFormed}
 use Rattle.table.specs.FormedLaws.{Used, zeros-empty, empty-zeros, formed-cases}
 use Rattle.table_searches.specs.Free.{longDeleted, free, freeSlot}
+use Rattle.table_searches.specs.FreeSearch.{Taken, FourLive}
 
 pub freeSlot-is : (t : List ℤ) (v : VersionRecord) → Lowest (λ k. free (slotAt t k) v) (slots t) (freeSlot t v)
 unfolding freeSlot
@@ -41,17 +43,6 @@ free-cases x v h f g =
 pub live-kept : (x : Slot) (v : VersionRecord) → live x ≡ true → free x v ≡ false
 live-kept x v l =
     by-test (free x v) (λ y. free-cases x v y (λ e. clash l (rw e dead-empty)) (λ d. clash l (dead-delete x (d .operation)))) (λ n. n)
-
--- ---- a search has passed the slots below a place: none of them is free
-abbrev pub Taken : List ℤ → ℕ → VersionRecord → Type 0
-Taken t k v = (j : ℕ) → j < k → free (slotAt t j) v ≡ false
-
--- it passes four slots that are all live
-pub record FourLive (t : List ℤ) (k : ℕ) : Type 0 where
-  pub first : live (slotAt t k) ≡ true
-  pub second : live (slotAt t (k + 1)) ≡ true
-  pub third : live (slotAt t (k + 2)) ≡ true
-  pub fourth : live (slotAt t (k + 3)) ≡ true
 
 pub past-live : {t : List ℤ} {k : ℕ} (v : VersionRecord) → FourLive t k → Taken t k v → Taken t (k + 4) v
 past-live {t} v f b =

@@ -8,16 +8,20 @@ use native.Mathlib.Nat.{lt-of-lt-of-le}
 use lib.Dec.{ltb}
 use borrow.Author.Tests.{ltb-true, ltb-false}
 use lib.IntN.{ℤ}
-use Rattle.laws.specs.Tests.{all, all-at, by-test, clash, not-yes, all-yes, all-no}
-use Rattle.laws.specs.Order.{eqZ, eqZ-true, eqZ-same}
+use Rattle.laws.specs.TestLaws.{all-at, by-test, clash, not-yes, all-yes, all-no}
+use Rattle.laws.specs.Tests.{all}
+use Rattle.laws.specs.OrderLaws.{eqZ-true, eqZ-same}
+use Rattle.laws.specs.Order.{eqZ}
 use Rattle.laws.specs.Below.{four-more}
-use Rattle.laws.specs.Lowest.{Lowest, lowest-is}
+use Rattle.laws.specs.LowestLaws.{lowest-is}
+use Rattle.laws.specs.Lowest.{Lowest}
 use Rattle.table.specs.declared.Slot.{Slot}
 use Rattle.table.specs.Slots.{badTable, slots, slotAt, empty}
 use Rattle.table.specs.SlotLaws.{slotAt-past}
 use Rattle.table.specs.Operations.{emptyOperation}
 use Rattle.table.specs.OperationLaws.{dead-empty}
 use Rattle.table_searches.specs.Keys.{hasKey, keySlot, keyed, keyLive}
+use Rattle.table_searches.specs.KeySearch.{Keyless, FourApart}
 
 pub keySlot-is : (t : List ℤ) (key1 key2 : ℤ) → Lowest (λ k. hasKey (slotAt t k) key1 key2) (slots t) (keySlot t key1 key2)
 unfolding keySlot
@@ -47,17 +51,6 @@ key-words x key1 key2 u = rw u refl
 pub other-key : (x : Slot) (key1 key2 : ℤ) → eqZ (x .key2) key2 ≡ false → hasKey x key1 key2 ≡ false
 unfolding hasKey
 other-key x key1 key2 h = all-no _ 2 h
-
--- ---- a search has passed the slots below a place: none of them has the key
-abbrev pub Keyless : List ℤ → ℕ → ℤ → ℤ → Type 0
-Keyless t k key1 key2 = (j : ℕ) → j < k → hasKey (slotAt t j) key1 key2 ≡ false
-
--- it passes four slots whose second key words are all another
-pub record FourApart (t : List ℤ) (k : ℕ) (key2 : ℤ) : Type 0 where
-  pub first : eqZ (slotAt t k .key2) key2 ≡ false
-  pub second : eqZ (slotAt t (k + 1) .key2) key2 ≡ false
-  pub third : eqZ (slotAt t (k + 2) .key2) key2 ≡ false
-  pub fourth : eqZ (slotAt t (k + 3) .key2) key2 ≡ false
 
 pub past-four : {t : List ℤ} {k : ℕ} {key2 : ℤ} (key1 : ℤ) → FourApart t k key2 → Keyless t k key1 key2 → Keyless t (k + 4) key1 key2
 past-four {t} {key2 = key2} key1 f b =

@@ -9,9 +9,9 @@ ghost use Rattle.laws.specs.Lowest.{Lowest};
 ghost use Rattle.versions.specs.Record.{badRecord};
 ghost use Rattle.table.specs.Slots.{badTable, slots, slotAt};
 ghost use Rattle.table_searches.specs.Keys.{hasKey, keySlot};
-ghost use Rattle.table_searches.specs.KeyLaws.{Keyless, FourApart};
+ghost use Rattle.table_searches.specs.KeySearch.{Keyless, FourApart};
 ghost use Rattle.table_searches.specs.Free.{longDeleted, free, freeSlot};
-ghost use Rattle.table_searches.specs.FreeLaws.{Taken, FourLive};
+ghost use Rattle.table_searches.specs.FreeSearch.{Taken, FourLive};
 use table::Slot;
 use versions::VersionRecord;
 

@@ -8,8 +8,10 @@ use lib.Signed.{leZ}
 use borrow.Author.Tests.{leb-true}
 use mir.Syntax.{w64}
 use mir.Val.{SFits}
-use Rattle.laws.specs.Tests.{any, none-at, not-no, by-test, clash}
-use Rattle.laws.specs.Order.{eqZ, from-to, next-low}
+use Rattle.laws.specs.TestLaws.{none-at, not-no, by-test, clash}
+use Rattle.laws.specs.Tests.{any}
+use Rattle.laws.specs.OrderLaws.{from-to, next-low}
+use Rattle.laws.specs.Order.{eqZ}
 use Rattle.versions.specs.declared.VersionRecord.{VersionRecord}
 use Rattle.versions.specs.Record.{largestVersion, freshRecord, badRecord, runNumber, lastRun}
 

@@ -1,6 +1,6 @@
 -- How the contracts of begin and commit are shown: a refusal leaves the record as it was; what is not refused is done. What
 -- was tested where a call is accepted, and what is left to test of a sound record. Assumes nothing.
-use mathlib.Core.Path.{_≡_, refl, _∙_}
+use mathlib.Core.Path.{_≡_, refl, _∙_, sym}
 use mathlib.Core.Bool.{true, false}
 use mathlib.Core.List.{[], _∷_}
 use Prim.Native.Nat.{ℕ, suc, _+_}
@@ -8,16 +8,18 @@ use native.Mathlib.Omega.{arith}
 use lib.IntN.{ℤ, pos, negsuc, _+ℤ_}
 use lib.Signed.{leZ}
 use borrow.Author.Tests.{leb-true, le-leb, eqb-false}
-use Rattle.laws.specs.Tests.{clash, not-no}
-use Rattle.laws.specs.First.{first, unless-refused, unless-done, none, skip, done}
-use Rattle.laws.specs.Order.{eqZ, next-low}
+use Rattle.laws.specs.TestLaws.{clash, not-no}
+use Rattle.laws.specs.FirstLaws.{unless-refused, unless-done, none, skip, done}
+use Rattle.laws.specs.First.{first}
+use Rattle.laws.specs.OrderLaws.{next-low}
+use Rattle.laws.specs.Order.{eqZ}
 use Rattle.versions.specs.declared.VersionRecord.{VersionRecord}
 use Rattle.versions.specs.declared.Numbered.{Numbered}
 use Rattle.versions.specs.declared.Numbered.the-variants.{Version, Refused}
 use Rattle.versions.specs.declared.Turned.{Turned}
 use Rattle.versions.specs.Record.{largestVersion, badRecord, idle, runNumber}
 use Rattle.versions.specs.RecordLaws.{sound, known}
-use Rattle.versions.specs.Runs.{openRefusal, openAnswer, keptAs, beginRefusal, beginAnswer, beginRecord, begunFrom, BeginContract, commitRefusal, commitAnswer, commitRecord, committedFrom, CommitContract}
+use Rattle.versions.specs.Runs.{openRefusal, openAnswer, keptAs, beginRefusal, beginAnswer, beginRecord, begunFrom, BeginContract, commitRefusal, commitAnswer, commitRecord, committedFrom, CommitContract, OpenContract}
 
 pub begin-kept : {v : VersionRecord} {n : ℕ} → beginRefusal v ≡ n → (n ≡ 0 → ⊥) → BeginContract v (keptAs v n)
 unfolding beginAnswer beginRecord
@@ -116,3 +118,16 @@ committed-sound v h =
       high = below-largest (v .current) (s .low) (s .high) (s .in-run (can .active));
       in-run = λ a. clash a refl;
     })
+
+-- ---- each contract allows one outcome
+pub one-opened : {v : VersionRecord} {r r′ : Numbered} → OpenContract v r → OpenContract v r′ → r ≡ r′
+one-opened a b = a .answer ∙ sym (b .answer)
+
+turned : {r r′ : Turned} → r .answer ≡ r′ .answer → r .versions ≡ r′ .versions → r ≡ r′
+turned a v i = record { answer = a i; versions = v i }
+
+pub one-begun : {v : VersionRecord} {r r′ : Turned} → BeginContract v r → BeginContract v r′ → r ≡ r′
+one-begun a b = turned (a .answer ∙ sym (b .answer)) (a .versions ∙ sym (b .versions))
+
+pub one-committed : {v : VersionRecord} {r r′ : Turned} → CommitContract v r → CommitContract v r′ → r ≡ r′
+one-committed a b = turned (a .answer ∙ sym (b .answer)) (a .versions ∙ sym (b .versions))

@@ -1,6 +1,6 @@
 -- Open, begin and commit: the refusals of each in the document's order, its answer, the record that it leaves, and the
 -- contract that says so. Each contract allows one outcome. Assumes nothing.
-use mathlib.Core.Path.{_≡_, sym, _∙_}
+use mathlib.Core.Path.{_≡_}
 use mathlib.Core.Bool.{Bool, true, false}
 use mathlib.Core.List.{List, [], _∷_}
 use Prim.Native.Nat.{ℕ}
@@ -81,16 +81,3 @@ commitRecord v = unless (commitRefusal v) (λ n. v) (committedFrom v)
 pub record CommitContract (v : VersionRecord) (r : Turned) : Type 0 where
   pub answer : r .answer ≡ commitAnswer v
   pub versions : r .versions ≡ commitRecord v
-
--- ---- each contract allows one outcome
-pub one-opened : {v : VersionRecord} {r r′ : Numbered} → OpenContract v r → OpenContract v r′ → r ≡ r′
-one-opened a b = a .answer ∙ sym (b .answer)
-
-turned : {r r′ : Turned} → r .answer ≡ r′ .answer → r .versions ≡ r′ .versions → r ≡ r′
-turned a v i = record { answer = a i; versions = v i }
-
-pub one-begun : {v : VersionRecord} {r r′ : Turned} → BeginContract v r → BeginContract v r′ → r ≡ r′
-one-begun a b = turned (a .answer ∙ sym (b .answer)) (a .versions ∙ sym (b .versions))
-
-pub one-committed : {v : VersionRecord} {r r′ : Turned} → CommitContract v r → CommitContract v r′ → r ≡ r′
-one-committed a b = turned (a .answer ∙ sym (b .answer)) (a .versions ∙ sym (b .versions))

@@ -9,8 +9,10 @@ use lib.IntN.{ℤ, pos, negsuc, _+ℤ_, _-ℤ_}
 use lib.Signed.{ltZ, leZ}
 use lib.Dec.{eqb, ltb, leb}
 use borrow.Author.Tests.{ltb-true, ltb-false, leb-true, leb-false, eqb-true, eqb-false, le-ltb, le-leb, lt-leb}
-use Rattle.laws.specs.Tests.{any, none-at, clash, by-test}
-use Rattle.laws.specs.Order.{eqZ, previous}
+use Rattle.laws.specs.TestLaws.{none-at, clash, by-test}
+use Rattle.laws.specs.Tests.{any}
+use Rattle.laws.specs.OrderLaws.{previous}
+use Rattle.laws.specs.Order.{eqZ}
 use Rattle.versions.specs.declared.VersionRecord.{VersionRecord}
 use Rattle.versions.specs.Record.{badRecord, lastRun}
 use Rattle.versions.specs.RecordLaws.{sound}

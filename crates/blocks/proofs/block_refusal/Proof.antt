@@ -1,8 +1,9 @@
 -- `blocks::block_refusal` meets its contract: the refusal of the tests before, or test 5. Assumes nothing.
 use mathlib.Core.Path.{_≡_, sym, _∙_}
 use borrow.Author.Needs.{needs}
-use Rattle.laws.specs.First.{first, hit, skip, done, pass, stop}
-use Rattle.blocks.specs.FrontLaws.{idleTests}
+use Rattle.laws.specs.FirstLaws.{hit, skip, done, pass, stop}
+use Rattle.laws.specs.First.{first}
+use Rattle.blocks.specs.BlockTests.{idleTests}
 use Rattle.blocks.proofs.block_refusal.Statement.{statement}
 use Rattle.blocks.proofs.block_refusal.Tie as tie
 

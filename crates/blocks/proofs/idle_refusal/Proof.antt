@@ -2,7 +2,7 @@
 use mathlib.Core.Path.{_≡_, sym, _∙_}
 use mathlib.Core.Bool.{false}
 use borrow.Author.Needs.{needs}
-use Rattle.laws.specs.First.{hit, skip, done}
+use Rattle.laws.specs.FirstLaws.{hit, skip, done}
 use Rattle.versions.specs.Record.{badRecord}
 use Rattle.table.specs.Slots.{badTable}
 use Rattle.blocks.proofs.idle_refusal.Statement.{statement}

@@ -3,9 +3,11 @@
 use mathlib.Core.Path.{_≡_, sym, _∙_}
 use native.Mathlib.Omega.{arith}
 use borrow.Author.Needs.{needs}
-use Rattle.laws.specs.First.{first, none, stop}
+use Rattle.laws.specs.FirstLaws.{none, stop}
+use Rattle.laws.specs.First.{first}
 use Rattle.blocks_loads.specs.LoadedSlots.{slotBlockWrong}
-use Rattle.blocks.specs.FrontLaws.{blockTests, within}
+use Rattle.blocks.specs.FrontLaws.{within}
+use Rattle.blocks.specs.BlockTests.{blockTests}
 use Rattle.blocks.specs.EndLaws.{end-14, end-15, end-16, end-0, load-block-end}
 use Rattle.blocks.specs.LoadBlock.{loadBlockRefusal}
 use Rattle.blocks.specs.ContractLaws.{block-not-loaded, block-loaded}

@@ -2,8 +2,10 @@
 -- Assumes nothing.
 use mathlib.Core.Path.{_≡_, sym, _∙_}
 use borrow.Author.Needs.{needs}
-use Rattle.laws.specs.First.{first, none, pass, stop}
-use Rattle.blocks.specs.FrontLaws.{blockTests, within}
+use Rattle.laws.specs.FirstLaws.{none, pass, stop}
+use Rattle.laws.specs.First.{first}
+use Rattle.blocks.specs.FrontLaws.{within}
+use Rattle.blocks.specs.BlockTests.{blockTests}
 use Rattle.blocks.specs.SaveBlock.{saveBlockRefusal}
 use Rattle.blocks.specs.ContractLaws.{zeros-handed, block-saved}
 use Rattle.blocks.proofs.save_block.Statement.{statement}

@@ -6,9 +6,10 @@ use mir.Syntax.{w64}
 use mir.Val.{SFits}
 use borrow.Author.Needs.{needs}
 use Rattle.laws.specs.Bits.{plain}
-use Rattle.laws.specs.First.{first, none}
+use Rattle.laws.specs.FirstLaws.{none}
+use Rattle.laws.specs.First.{first}
 use Rattle.table.specs.SlotLaws.{lengths}
-use Rattle.blocks.specs.FrontLaws.{idleTests}
+use Rattle.blocks.specs.BlockTests.{idleTests}
 use Rattle.blocks.specs.HeaderBlocks.{headerWords}
 use Rattle.blocks.specs.HeaderLaws.{Natural, current-natural}
 use Rattle.blocks.specs.SaveHeader.{saveHeaderRefusal}

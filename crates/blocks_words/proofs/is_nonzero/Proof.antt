@@ -7,7 +7,7 @@ use native.Mathlib.Omega.{arith}
 use lib.Dec.{eqb}
 use borrow.Author.Needs.{needs}
 use borrow.Author.Tests.{eq-eqb, ne-eqb}
-use Rattle.laws.specs.Lowest.{below-next, some-yes, all-fail}
+use Rattle.laws.specs.LowestLaws.{below-next, some-yes, all-fail}
 use Rattle.blocks_words.specs.Words.{wordAt}
 use Rattle.blocks_words.proofs.is_nonzero.Statement.{statement}
 use Rattle.blocks_words.proofs.is_nonzero.Tie as tie

@@ -5,11 +5,11 @@ use mathlib.Core.Bool.{false, not}
 use native.Mathlib.Omega.{arith}
 use borrow.Author.Needs.{needs}
 use borrow.Author.Tests.{lt-ltb, le-ltb}
-use Rattle.laws.specs.First.{skip, hit, done}
+use Rattle.laws.specs.FirstLaws.{skip, hit, done}
 use Rattle.laws.specs.Bits.{plain}
 use Rattle.table.specs.Formed.{broken}
 use Rattle.table_searches.specs.Keys.{keyed, keyLive}
-use Rattle.changes.specs.Insert.{insertSlot}
+use Rattle.changes.specs.ChangeTests.{insertSlot}
 use Rattle.changes.specs.PlacedLaws.{refused, passed}
 use Rattle.changes.specs.Looked.{Looked, looked, looked-live}
 use Rattle.changes.proofs.add_row.Statement.{statement}

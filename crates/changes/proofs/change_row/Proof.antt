@@ -4,13 +4,13 @@ use mathlib.Core.Path.{_≡_, ap, _∙_}
 use mathlib.Core.Bool.{false, not}
 use native.Mathlib.Omega.{arith}
 use borrow.Author.Needs.{needs}
-use Rattle.laws.specs.Tests.{not-no}
-use Rattle.laws.specs.First.{skip, hit}
+use Rattle.laws.specs.TestLaws.{not-no}
+use Rattle.laws.specs.FirstLaws.{skip, hit}
 use Rattle.laws.specs.Bits.{plain}
 use Rattle.table.specs.Formed.{broken}
 use Rattle.table_searches.specs.Keys.{keyed}
 use Rattle.table_searches.specs.KeyLaws.{live-placed}
-use Rattle.changes.specs.Update.{notLive}
+use Rattle.changes.specs.ChangeTests.{notLive}
 use Rattle.changes.specs.PlacedLaws.{refused, row-changed}
 use Rattle.changes.specs.Looked.{Looked, looked, looked-live}
 use Rattle.changes.proofs.change_row.Statement.{statement}

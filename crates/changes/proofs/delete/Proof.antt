@@ -2,9 +2,10 @@
 -- nothing.
 use mathlib.Core.Path.{_≡_, sym, _∙_}
 use borrow.Author.Needs.{needs}
-use Rattle.laws.specs.First.{pass, stop}
+use Rattle.laws.specs.FirstLaws.{pass, stop}
 use Rattle.laws.specs.Bits.{plain}
-use Rattle.changes.specs.Running.{runningTests, runningRefusal, running}
+use Rattle.changes.specs.RunningLaws.{running}
+use Rattle.changes.specs.ChangeTests.{runningTests, runningRefusal}
 use Rattle.changes.specs.Delete.{deleteRefusal}
 use Rattle.changes.specs.PlacedLaws.{refused, passed, delete-leaves}
 use Rattle.changes.proofs.delete.Statement.{statement}

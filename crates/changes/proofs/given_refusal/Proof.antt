@@ -2,10 +2,10 @@
 -- test. Assumes nothing.
 use mathlib.Core.Path.{_≡_, sym, _∙_}
 use borrow.Author.Needs.{needs}
-use Rattle.laws.specs.First.{first, after, skip, hit, done, pass, stop}
+use Rattle.laws.specs.FirstLaws.{after, skip, hit, done, pass, stop}
+use Rattle.laws.specs.First.{first}
 use Rattle.laws.specs.Bits.{plain}
-use Rattle.changes.specs.Running.{runningTests, runningRefusal}
-use Rattle.changes.specs.PlacedLaws.{givenTests, givenRefusal}
+use Rattle.changes.specs.ChangeTests.{runningTests, runningRefusal, givenTests, givenRefusal}
 use Rattle.changes.proofs.given_refusal.Statement.{statement}
 use Rattle.changes.proofs.given_refusal.Tie as tie
 

@@ -2,10 +2,11 @@
 -- first refuses and past them what the second leaves. Assumes nothing.
 use mathlib.Core.Path.{_≡_, sym, _∙_}
 use borrow.Author.Needs.{needs}
-use Rattle.laws.specs.First.{pass, stop}
+use Rattle.laws.specs.FirstLaws.{pass, stop}
 use Rattle.laws.specs.Bits.{plain}
 use Rattle.changes.specs.Insert.{insertRefusal}
-use Rattle.changes.specs.PlacedLaws.{givenTests, givenRefusal, given, refused, passed, insert-leaves}
+use Rattle.changes.specs.PlacedLaws.{given, refused, passed, insert-leaves}
+use Rattle.changes.specs.ChangeTests.{givenTests, givenRefusal}
 use Rattle.changes.proofs.insert.Statement.{statement}
 use Rattle.changes.proofs.insert.Tie as tie
 

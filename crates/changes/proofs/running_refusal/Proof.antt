@@ -3,10 +3,10 @@
 use mathlib.Core.Path.{_≡_, sym, _∙_}
 use mathlib.Core.Bool.{false}
 use borrow.Author.Needs.{needs}
-use Rattle.laws.specs.First.{skip, hit, done}
+use Rattle.laws.specs.FirstLaws.{skip, hit, done}
 use Rattle.versions.specs.Record.{badRecord}
 use Rattle.table.specs.Slots.{badTable}
-use Rattle.changes.specs.Running.{runningRefusal}
+use Rattle.changes.specs.ChangeTests.{runningRefusal}
 use Rattle.changes.proofs.running_refusal.Statement.{statement}
 use Rattle.changes.proofs.running_refusal.Tie as tie
 

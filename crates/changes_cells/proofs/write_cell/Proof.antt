@@ -8,7 +8,7 @@ use lib.Dec.{eqb}
 use lib.IntN.{ℤ}
 use borrow.Author.Needs.{needs}
 use borrow.Author.Tests.{eqb-true, eqb-false}
-use Rattle.laws.specs.Tests.{by-test}
+use Rattle.laws.specs.TestLaws.{by-test}
 use Rattle.laws.specs.Bits.{plain}
 use Rattle.table.specs.declared.Slot.{Slot}
 use Rattle.changes_cells.specs.Tables.{impossible, written}

@@ -4,13 +4,15 @@ use mathlib.Core.Path.{_≡_, sym, ap, _∙_}
 use mathlib.Core.Bool.{not}
 use borrow.Author.Needs.{needs}
 use Rattle.laws.specs.Bits.{plain}
-use Rattle.laws.specs.First.{first, after, unless-refused, unless-done, skip, done, pass, stop}
+use Rattle.laws.specs.FirstLaws.{after, unless-refused, unless-done, skip, done, pass, stop}
+use Rattle.laws.specs.First.{first}
 use Rattle.table.specs.Slots.{empty}
 use Rattle.table.specs.SlotLaws.{slotAt-past}
 use Rattle.table.specs.FormedLaws.{empty-formed}
 use Rattle.table_searches.specs.Keys.{keySlot, keyed}
 use Rattle.reads.specs.declared.Seen.the-variants.{Refused}
-use Rattle.reads.specs.Session.{sessionTests, sessionRefusal, Open, opened}
+use Rattle.reads.specs.SessionTests.{sessionTests, sessionRefusal}
+use Rattle.reads.specs.OpenLaws.{Open, opened}
 use Rattle.reads.specs.Table1Laws.{shown-empty}
 use Rattle.reads.specs.ReadKey.{readKeyTests, readKeyRefusal, readKeyAnswer}
 use Rattle.reads.proofs.read_key.Statement.{statement}

@@ -7,9 +7,11 @@ use native.Mathlib.Omega.{arith}
 use borrow.Author.Needs.{needs}
 use borrow.Author.Tests.{lt-ltb, le-ltb}
 use Rattle.laws.specs.Bits.{plain}
-use Rattle.laws.specs.First.{first, after, unless-refused, skip, hit, pass, stop}
+use Rattle.laws.specs.FirstLaws.{after, unless-refused, skip, hit, pass, stop}
+use Rattle.laws.specs.First.{first}
 use Rattle.reads.specs.declared.Seen.the-variants.{Refused}
-use Rattle.reads.specs.Session.{sessionTests, sessionRefusal, Open, opened}
+use Rattle.reads.specs.SessionTests.{sessionTests, sessionRefusal}
+use Rattle.reads.specs.OpenLaws.{Open, opened}
 use Rattle.reads.specs.ReadSlot.{readSlotTests, readSlotRefusal, readSlotAnswer}
 use Rattle.reads.proofs.read_slot.Statement.{statement}
 use Rattle.reads.proofs.read_slot.Tie as tie

@@ -11,16 +11,18 @@ use mir.Syntax.{w64}
 use mir.Val.{SFits, toZ}
 use borrow.Author.Needs.{needs}
 use borrow.Author.Tests.{ltb-true, ltb-false}
-use Rattle.laws.specs.Tests.{by-test, clash, not-yes, not-no}
+use Rattle.laws.specs.TestLaws.{by-test, clash, not-yes, not-no}
 use Rattle.laws.specs.Bits.{plain}
-use Rattle.laws.specs.First.{first, after, unless-refused, unless-done, skip, hit, done, pass, stop}
-use Rattle.laws.specs.Lowest.{below-next}
+use Rattle.laws.specs.FirstLaws.{after, unless-refused, unless-done, skip, hit, done, pass, stop}
+use Rattle.laws.specs.First.{first}
+use Rattle.laws.specs.LowestLaws.{below-next}
 use Rattle.table.specs.Slots.{slots, slotAt}
 use Rattle.table.specs.SlotLaws.{lengths, slotAt-past}
 use Rattle.table.specs.Formed.{wellFormed, broken}
 use Rattle.table.specs.FormedLaws.{empty-formed, none-broken, all-formed}
 use Rattle.reads.specs.declared.Rolled.the-variants.{Refused}
-use Rattle.reads.specs.Session.{sessionTests, sessionRefusal, Open, opened}
+use Rattle.reads.specs.SessionTests.{sessionTests, sessionRefusal}
+use Rattle.reads.specs.OpenLaws.{Open, opened}
 use Rattle.reads.specs.Table1Laws.{shown-lawful}
 use Rattle.reads.specs.RollUp.{tally, seen, sums, rollUpTests, rollUpRefusal, rollUpAnswer}
 use Rattle.reads.specs.RollUpLaws.{bounded-more, tally-bounded}

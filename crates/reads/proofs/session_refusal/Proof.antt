@@ -6,12 +6,14 @@ use mathlib.Core.List.{[], _∷_}
 use Prim.Native.Nat.{ℕ}
 use lib.ListN.{getD}
 use borrow.Author.Needs.{needs}
-use Rattle.laws.specs.Tests.{any, none-at}
+use Rattle.laws.specs.TestLaws.{none-at}
+use Rattle.laws.specs.Tests.{any}
 use Rattle.laws.specs.Bits.{plain}
-use Rattle.laws.specs.First.{first, after, skip, hit, done}
+use Rattle.laws.specs.FirstLaws.{after, skip, hit, done}
+use Rattle.laws.specs.First.{first}
 use Rattle.versions.specs.Record.{badRecord}
 use Rattle.versions.specs.Sessions.{unborn, expired}
-use Rattle.reads.specs.Session.{sessionTests, sessionRefusal}
+use Rattle.reads.specs.SessionTests.{sessionTests, sessionRefusal}
 use Rattle.reads.proofs.session_refusal.Statement.{statement}
 use Rattle.reads.proofs.session_refusal.Tie as tie
 

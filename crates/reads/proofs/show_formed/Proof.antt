@@ -5,7 +5,7 @@ use mathlib.Core.Bool.{not}
 use native.Mathlib.Omega.{arith}
 use borrow.Author.Needs.{needs}
 use Rattle.laws.specs.Bits.{plain}
-use Rattle.laws.specs.First.{unless-refused, unless-done, skip, hit, done}
+use Rattle.laws.specs.FirstLaws.{unless-refused, unless-done, skip, hit, done}
 use Rattle.reads.specs.declared.Seen.the-variants.{Refused}
 use Rattle.reads.proofs.show_formed.Statement.{statement}
 use Rattle.reads.proofs.show_formed.Tie as tie

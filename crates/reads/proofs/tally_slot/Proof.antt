@@ -14,7 +14,8 @@ use Rattle.laws.specs.Bits.{plain, is, isnt}
 use Rattle.reads.specs.declared.Seen.the-variants.{Row}
 use Rattle.reads.specs.Table1.{shown}
 use Rattle.reads.specs.RollUp.{counted, tallied}
-use Rattle.reads.specs.RollUpLaws.{bounded-more, counted-bounded, SumsFit, sums-fit, tallied-other, tallied-own}
+use Rattle.reads.specs.RollUpLaws.{bounded-more, counted-bounded, sums-fit, tallied-other, tallied-own}
+use Rattle.reads.specs.RollUpBounds.{SumsFit}
 use Rattle.reads.proofs.tally_slot.Statement.{statement}
 use Rattle.reads.proofs.tally_slot.Tie as tie
 

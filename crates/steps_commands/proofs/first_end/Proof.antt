@@ -5,8 +5,9 @@ use Prim.Native.Nat.{ℕ, _≤_, _<_, _-_}
 use native.Mathlib.Omega.{arith}
 use lib.ListN.{length}
 use borrow.Author.Tests.{eq-eqb, ne-eqb}
-use Rattle.laws.specs.Lowest.{lowest-only, below-next, found, exhausted}
-use Rattle.steps_commands.specs.FieldLaws.{spaceAt, firstEnd-is}
+use Rattle.laws.specs.LowestLaws.{lowest-only, below-next, found, exhausted}
+use Rattle.steps_commands.specs.FieldLaws.{firstEnd-is}
+use Rattle.steps_commands.specs.Fields.{spaceAt}
 use Rattle.steps_commands.proofs.first_end.Statement.{statement}
 use Rattle.steps_commands.proofs.first_end.Tie as tie
 

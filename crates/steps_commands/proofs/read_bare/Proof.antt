@@ -1,6 +1,6 @@
 -- `steps_commands::read_bare` meets its contract: the letters are tested in the definition's order. Assumes nothing.
 use borrow.Author.Tests.{eq-eqb, ne-eqb}
-use Rattle.steps_commands.specs.CommandLaws.{bareOf}
+use Rattle.steps_commands.specs.CommandParts.{bareOf}
 use Rattle.steps_commands.proofs.read_bare.Statement.{statement}
 use Rattle.steps_commands.proofs.read_bare.Tie as tie
 

@@ -4,7 +4,7 @@ use Prim.Native.Nat.{_≤_, _-_}
 use native.Mathlib.Omega.{arith}
 use lib.ListN.{length}
 use borrow.Author.Needs.{needs}
-use Rattle.laws.specs.Tests.{not-yes, not-no}
+use Rattle.laws.specs.TestLaws.{not-yes, not-no}
 use Rattle.steps_commands.specs.ReadDigits.{Passed, one-passed, not-passed, all-passed, fits, no-digits, many-digits, other-digits, digits-make}
 use Rattle.steps_commands.proofs.read_digits.Statement.{statement}
 use Rattle.steps_commands.proofs.read_digits.Tie as tie

@@ -4,7 +4,7 @@ use lib.Seq.{length-take-le}
 use native.Mathlib.Omega.{arith}
 use borrow.Author.Needs.{needs}
 use borrow.Author.Tests.{lt-ltb, le-ltb}
-use Rattle.steps_commands.specs.FieldLaws.{firstOf}
+use Rattle.steps_commands.specs.Fields.{firstOf}
 use Rattle.steps_commands.proofs.read_first.Statement.{statement}
 use Rattle.steps_commands.proofs.read_first.Tie as tie
 

@@ -2,7 +2,7 @@
 -- Assumes nothing.
 use borrow.Author.Needs.{needs}
 use borrow.Author.Tests.{eq-eqb, ne-eqb}
-use Rattle.steps_commands.specs.CommandLaws.{numberedOf}
+use Rattle.steps_commands.specs.CommandParts.{numberedOf}
 use Rattle.steps_commands.proofs.read_numbered.Statement.{statement}
 use Rattle.steps_commands.proofs.read_numbered.Tie as tie
 

@@ -3,7 +3,8 @@ use mathlib.Core.Path.{_≡_}
 use borrow.Author.Needs.{needs}
 use borrow.Rule.Slice.PartAt.{part-to-end}
 use Rattle.steps_commands.specs.declared.First.the-variants.{Number}
-use Rattle.steps_commands.specs.FieldLaws.{firstOf, first-within, one-number}
+use Rattle.steps_commands.specs.FieldLaws.{first-within, one-number}
+use Rattle.steps_commands.specs.Fields.{firstOf}
 use Rattle.steps_commands.specs.CountLaws.{two-first}
 use Rattle.steps_commands.proofs.read_two.Statement.{statement}
 use Rattle.steps_commands.proofs.read_two.Tie as tie

@@ -5,7 +5,8 @@ use Rattle.laws.specs.Bits.{plain}
 use Rattle.steps_commands.specs.Commands.{spaceByte}
 use Rattle.steps_replies.specs.Decimals.{numeral}
 use Rattle.steps_replies.specs.LineLaws.{two-numbers}
-use Rattle.steps_replies.specs.WrittenLaws.{Put, then, room-first, room-then}
+use Rattle.steps_replies.specs.WrittenLaws.{then, room-first, room-then}
+use Rattle.steps_replies.specs.Puts.{Put}
 use Rattle.steps_replies.proofs.put_numbers_line.Statement.{statement}
 use Rattle.steps_replies.proofs.put_numbers_line.Tie as tie
 

@@ -6,7 +6,8 @@ use native.Mathlib.Omega.{arith}
 use lib.ListN.{length, take, length-take}
 use lib.Seq.{take-suc, take-all}
 use borrow.Author.Needs.{needs}
-use Rattle.steps_replies.specs.WrittenLaws.{Put, nothing-put, then, same-long}
+use Rattle.steps_replies.specs.WrittenLaws.{nothing-put, then, same-long}
+use Rattle.steps_replies.specs.Puts.{Put}
 use Rattle.steps_replies.proofs.put_text.Statement.{statement}
 use Rattle.steps_replies.proofs.put_text.Tie as tie
 

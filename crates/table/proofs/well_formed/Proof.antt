@@ -4,7 +4,7 @@ use lib.IntN.{pos}
 use mir.Syntax.{w64}
 use mir.Val.{SFits}
 use borrow.Author.Needs.{needs}
-use Rattle.laws.specs.Order.{eqZ-true}
+use Rattle.laws.specs.OrderLaws.{eqZ-true}
 use Rattle.laws.specs.Bits.{is, isnt}
 use Rattle.table.specs.FormedLaws.{formed-empty, formed-used}
 use Rattle.table.proofs.well_formed.Statement.{statement}

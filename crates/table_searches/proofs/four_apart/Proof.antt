@@ -9,7 +9,8 @@ use lib.IntN.{ℤ}
 use mir.Syntax.{w64}
 use mir.Val.{SFits, ofZ}
 use borrow.Author.Needs.{needs}
-use Rattle.laws.specs.Tests.{all, all-at, not-yes}
+use Rattle.laws.specs.TestLaws.{all-at, not-yes}
+use Rattle.laws.specs.Tests.{all}
 use Rattle.laws.specs.Order.{eqZ}
 use Rattle.laws.specs.Bits.{eq-bits}
 use Rattle.table.specs.Slots.{word}

@@ -8,11 +8,13 @@ use lib.IntN.{ℤ}
 use mir.Syntax.{w64}
 use mir.Val.{SFits, toZ, ofZ}
 use borrow.Author.Needs.{needs}
-use Rattle.laws.specs.Tests.{all, all-at}
+use Rattle.laws.specs.TestLaws.{all-at}
+use Rattle.laws.specs.Tests.{all}
 use Rattle.laws.specs.Bits.{plain}
 use Rattle.table.specs.Slots.{word}
 use Rattle.table.specs.SlotLaws.{operation-at, word-on}
-use Rattle.table.specs.OperationLaws.{liveWord, live-word}
+use Rattle.table.specs.OperationLaws.{live-word}
+use Rattle.table.specs.Operations.{liveWord}
 use Rattle.table_searches.proofs.four_live.Statement.{statement}
 use Rattle.table_searches.proofs.four_live.Tie as tie
 

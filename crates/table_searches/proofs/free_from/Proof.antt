@@ -3,10 +3,10 @@ use Prim.Native.Nat.{_-_}
 use mathlib.Core.Path.{sym, _∙_}
 use native.Mathlib.Omega.{arith}
 use borrow.Author.Needs.{needs}
-use Rattle.laws.specs.Lowest.{below-next, found, exhausted}
+use Rattle.laws.specs.LowestLaws.{below-next, found, exhausted}
 use Rattle.table.specs.Slots.{slotAt}
 use Rattle.table_searches.specs.Free.{free}
-use Rattle.table_searches.specs.FreeLaws.{Taken}
+use Rattle.table_searches.specs.FreeSearch.{Taken}
 use Rattle.table_searches.proofs.free_from.Statement.{statement}
 use Rattle.table_searches.proofs.free_from.Tie as tie
 

@@ -3,9 +3,10 @@ use Prim.Native.Nat.{_+_, _≤_, _-_}
 use mathlib.Core.Logic.{inl, inr}
 use native.Mathlib.Omega.{arith}
 use borrow.Author.Needs.{needs}
-use Rattle.laws.specs.Tests.{not-no}
-use Rattle.laws.specs.Lowest.{lowest-only, found}
-use Rattle.table_searches.specs.FreeLaws.{Taken, freeSlot-is, past-live}
+use Rattle.laws.specs.TestLaws.{not-no}
+use Rattle.laws.specs.LowestLaws.{lowest-only, found}
+use Rattle.table_searches.specs.FreeLaws.{freeSlot-is, past-live}
+use Rattle.table_searches.specs.FreeSearch.{Taken}
 use Rattle.table_searches.proofs.free_slot.Statement.{statement}
 use Rattle.table_searches.proofs.free_slot.Tie as tie
 

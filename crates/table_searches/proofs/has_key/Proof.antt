@@ -9,7 +9,8 @@ use lib.IntN.{ℤ, pos}
 use mir.Syntax.{w64}
 use mir.Val.{SFits}
 use borrow.Author.Needs.{needs}
-use Rattle.laws.specs.Tests.{all, all-no, all-yes}
+use Rattle.laws.specs.TestLaws.{all-no, all-yes}
+use Rattle.laws.specs.Tests.{all}
 use Rattle.laws.specs.Order.{eqZ}
 use Rattle.laws.specs.Bits.{is, isnt}
 use Rattle.table.specs.Slots.{slotAt, word}

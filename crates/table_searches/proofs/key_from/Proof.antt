@@ -8,10 +8,11 @@ use mir.Syntax.{w64}
 use mir.Val.{toZ, ofZ}
 use borrow.Author.Needs.{needs}
 use Rattle.laws.specs.Bits.{plain}
-use Rattle.laws.specs.Lowest.{Lowest, below-next, found, exhausted}
+use Rattle.laws.specs.LowestLaws.{below-next, found, exhausted}
+use Rattle.laws.specs.Lowest.{Lowest}
 use Rattle.table.specs.Slots.{slotAt}
 use Rattle.table_searches.specs.Keys.{hasKey}
-use Rattle.table_searches.specs.KeyLaws.{Keyless}
+use Rattle.table_searches.specs.KeySearch.{Keyless}
 use Rattle.table_searches.proofs.key_from.Statement.{statement}
 use Rattle.table_searches.proofs.key_from.Tie as tie
 

@@ -9,11 +9,13 @@ use mir.Syntax.{w64}
 use mir.Val.{toZ, ofZ}
 use borrow.Author.Needs.{needs}
 use Rattle.laws.specs.Bits.{plain}
-use Rattle.laws.specs.Tests.{not-no}
-use Rattle.laws.specs.Lowest.{Lowest, lowest-only, found}
+use Rattle.laws.specs.TestLaws.{not-no}
+use Rattle.laws.specs.LowestLaws.{lowest-only, found}
+use Rattle.laws.specs.Lowest.{Lowest}
 use Rattle.table.specs.Slots.{slots, slotAt}
 use Rattle.table_searches.specs.Keys.{hasKey, keySlot}
-use Rattle.table_searches.specs.KeyLaws.{Keyless, keySlot-is, past-four}
+use Rattle.table_searches.specs.KeyLaws.{keySlot-is, past-four}
+use Rattle.table_searches.specs.KeySearch.{Keyless}
 use Rattle.table_searches.proofs.key_slot.Statement.{statement}
 use Rattle.table_searches.proofs.key_slot.Tie as tie
 

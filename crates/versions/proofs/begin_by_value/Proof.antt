@@ -6,7 +6,7 @@ use native.Mathlib.Omega.{arith}
 use mir.Syntax.{w64}
 use mir.Val.{SFits}
 use borrow.Author.Needs.{needs}
-use Rattle.laws.specs.First.{hit, skip, done}
+use Rattle.laws.specs.FirstLaws.{hit, skip, done}
 use Rattle.laws.specs.Bits.{plain, is, isnt}
 use Rattle.versions.specs.declared.Numbered.the-variants.{Version}
 use Rattle.versions.specs.Record.{largestVersion, badRecord}

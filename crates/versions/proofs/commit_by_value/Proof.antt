@@ -4,7 +4,7 @@ use mathlib.Core.Path.{_≡_, refl, sym, ap, _∙_}
 use mathlib.Core.Bool.{false}
 use native.Mathlib.Omega.{arith}
 use borrow.Author.Needs.{needs}
-use Rattle.laws.specs.First.{hit, skip, done}
+use Rattle.laws.specs.FirstLaws.{hit, skip, done}
 use Rattle.laws.specs.Bits.{plain}
 use Rattle.versions.specs.declared.Numbered.the-variants.{Version}
 use Rattle.versions.specs.Record.{badRecord}

@@ -4,7 +4,7 @@ use native.Mathlib.Omega.{arith}
 use mir.Syntax.{w64}
 use mir.Val.{SFits}
 use borrow.Author.Needs.{needs}
-use Rattle.laws.specs.First.{hit, skip, done, unless-refused, unless-done}
+use Rattle.laws.specs.FirstLaws.{hit, skip, done, unless-refused, unless-done}
 use Rattle.laws.specs.Bits.{plain}
 use Rattle.versions.specs.declared.Numbered.the-variants.{Version, Refused}
 use Rattle.versions.specs.Runs.{openRefusal, openAnswer}

@@ -7,12 +7,13 @@ use Prim.Native.Nat.{ℕ, _+_, _≤_, _<_, _-_}
 use native.Mathlib.Omega.{arith}
 use lib.IntN.{ℤ}
 use borrow.Author.Needs.{needs}
-use Rattle.laws.specs.Lowest.{below-next}
+use Rattle.laws.specs.LowestLaws.{below-next}
 use Rattle.versions.specs.declared.VersionRecord.{VersionRecord}
 use Rattle.table.specs.Slots.{slotAt}
 use Rattle.table.specs.SlotLaws.{lengths}
 use Rattle.table.specs.Formed.{broken}
-use Rattle.blocks_words.specs.FollowLaws.{FollowedBy, nothing-written}
+use Rattle.blocks_words.specs.FollowLaws.{nothing-written}
+use Rattle.blocks_words.specs.Follows.{FollowedBy}
 use Rattle.blocks_words.specs.Longs.{blockSlots}
 use Rattle.blocks_loads.specs.LoadedSlots.{firstSlot}
 use Rattle.blocks.specs.SlotBlockLaws.{numbered, slot-written, slots-whole, slot-broken, none-broken}

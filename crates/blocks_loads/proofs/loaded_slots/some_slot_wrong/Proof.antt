@@ -4,7 +4,7 @@ use mathlib.Core.Bool.{false}
 use Prim.Native.Nat.{ℕ, _<_, _-_}
 use native.Mathlib.Omega.{arith}
 use borrow.Author.Needs.{needs}
-use Rattle.laws.specs.Lowest.{below-next, some-yes, all-fail}
+use Rattle.laws.specs.LowestLaws.{below-next, some-yes, all-fail}
 use Rattle.blocks_words.specs.Longs.{blockSlots}
 use Rattle.blocks_loads.specs.LoadedSlots.{slotWrong}
 use Rattle.blocks_loads.proofs.loaded_slots.some_slot_wrong.Statement.{statement}

@@ -5,7 +5,8 @@ use native.Mathlib.Omega.{arith}
 use mir.Syntax.{w64}
 use mir.ValLaws.{toZ-pos}
 use borrow.Author.Needs.{needs}
-use Rattle.changes.specs.Places.{mostSlots, slot-low}
+use Rattle.changes.specs.Places.{slot-low}
+use Rattle.changes.specs.PlacedNumbers.{mostSlots}
 use Rattle.probe.proofs.numbers.put_placed.Statement.{statement}
 use Rattle.probe.proofs.numbers.put_placed.Tie as tie
 

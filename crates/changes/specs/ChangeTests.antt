@@ -1,0 +1,54 @@
+-- The tests of changes, in the parts that a function of the code answers for: a list of tests is made of these, and each test
+-- stands once. Assumes nothing.
+use mathlib.Core.Bool.{Bool, cond, not}
+use mathlib.Core.List.{List, [], _∷_, _++_}
+use Prim.Native.Nat.{ℕ}
+use lib.IntN.{ℤ}
+use Rattle.laws.specs.First.{first}
+use Rattle.versions.specs.declared.VersionRecord.{VersionRecord}
+use Rattle.versions.specs.Record.{badRecord, idle}
+use Rattle.table.specs.Slots.{badTable, slots}
+use lib.Dec.{ltb}
+use Rattle.table_searches.specs.Keys.{keySlot, keyLive, keyed}
+use Rattle.table_searches.specs.Free.{freeSlot}
+use Rattle.table.specs.Totals.{unlawful}
+use Rattle.table.specs.Formed.{broken}
+
+abbrev pub runningTests : List ℤ → VersionRecord → List (Bool × ℕ)
+runningTests t v =
+    (badTable t, 1)
+    ∷ (badRecord v, 2)
+    ∷ (idle v, 8)
+    ∷ []
+
+unfoldable pub runningRefusal : List ℤ → VersionRecord → ℕ
+runningRefusal t v = first (runningTests t v)
+
+-- the slot that is written: the key's; where the key has none, the lowest that is all zeros, or is well formed and deleted
+-- by an older run
+abbrev pub insertSlot : List ℤ → VersionRecord → ℤ → ℤ → ℕ
+insertSlot t v key1 key2 = cond (ltb (keySlot t key1 key2) (slots t)) (keySlot t key1 key2) (freeSlot t v)
+
+-- 12: no slot to take
+abbrev pub noSlot : List ℤ → VersionRecord → ℤ → ℤ → Bool
+noSlot t v key1 key2 = not (ltb (insertSlot t v key1 key2) (slots t))
+
+-- 11: key not live (deleted or absent)
+abbrev pub notLive : List ℤ → ℤ → ℤ → Bool
+notLive t key1 key2 = not (keyLive t key1 key2)
+
+-- ---- the parts of the lists of tests
+-- 1, 2, 8, 13: insert and update begin with these, delete with 1, 2, 8
+abbrev pub givenTests : List ℤ → VersionRecord → ℤ → ℤ → List (Bool × ℕ)
+givenTests t v a b = runningTests t v ++ (unlawful a b, 13) ∷ []
+
+abbrev pub givenRefusal : List ℤ → VersionRecord → ℤ → ℤ → ℕ
+givenRefusal t v a b = first (givenTests t v a b)
+
+-- 6, 10, 12: insert ends with these
+abbrev pub addTests : List ℤ → VersionRecord → ℤ → ℤ → List (Bool × ℕ)
+addTests t v key1 key2 = (broken (keyed t key1 key2) v, 6) ∷ (keyLive t key1 key2, 10) ∷ (noSlot t v key1 key2, 12) ∷ []
+
+-- 6, 11: update and delete end with these
+abbrev pub changeTests : List ℤ → VersionRecord → ℤ → ℤ → List (Bool × ℕ)
+changeTests t v key1 key2 = (broken (keyed t key1 key2) v, 6) ∷ (notLive t key1 key2, 11) ∷ []

@@ -1,0 +1,23 @@
+-- Where the tests that every change begins with pass, a run is active. Assumes nothing.
+use mathlib.Core.Path.{_≡_}
+use mathlib.Core.Bool.{true, false}
+use mathlib.Core.List.{List}
+use lib.IntN.{ℤ}
+use Rattle.laws.specs.TestLaws.{not-no}
+use Rattle.laws.specs.FirstLaws.{none}
+use Rattle.versions.specs.declared.VersionRecord.{VersionRecord}
+use Rattle.versions.specs.Record.{badRecord}
+use Rattle.table.specs.Slots.{badTable}
+use Rattle.changes.specs.ChangeTests.{runningRefusal}
+
+-- ---- where none of them is given
+pub record Running (t : List ℤ) (v : VersionRecord) : Type 0 where
+  pub table : badTable t ≡ false
+  pub known : badRecord v ≡ false
+  pub active : v .active ≡ true
+
+pub running : (t : List ℤ) (v : VersionRecord) → runningRefusal t v ≡ 0 → Running t v
+unfolding runningRefusal
+running t v h =
+    let no = none _ tt h in
+    record { table = no 1; known = no 2; active = not-no (no 8) }
