@@ -4,24 +4,25 @@ use mathlib.Core.Bool.{Bool}
 use mathlib.Core.List.{List, [], _∷_, _++_}
 use Prim.Native.Nat.{ℕ}
 use lib.IntN.{ℤ}
+use Rattle.refusals.specs.Refusals as refusal
 use Rattle.versions.specs.declared.VersionRecord.{VersionRecord}
 use Rattle.versions.specs.Record.{badRecord}
 use Rattle.table.specs.Slots.{badTable}
 use Rattle.blocks.specs.SlotBlocks.{noSuchBlock, blockBroken}
 use Rattle.blocks_words.specs.Words.{notBlock, checkWrong}
 
--- 1, 2, 7
+-- 1, 2, 7: a save begins with these
 abbrev pub idleTests : List ℤ → VersionRecord → List (Bool × ℕ)
-idleTests t v = (badTable t, 1) ∷ (badRecord v, 2) ∷ (v .active, 7) ∷ []
+idleTests t v = (badTable t, refusal.badTable) ∷ (badRecord v, refusal.badRecord) ∷ (v .active, refusal.runActive) ∷ []
 
--- 1, 2, 7, 5
+-- 1, 2, 7, 5: one of a block of slots, and its load, begin with these
 abbrev pub blockTests : List ℤ → VersionRecord → ℕ → List (Bool × ℕ)
-blockTests t v k = idleTests t v ++ (noSuchBlock t k, 5) ∷ []
+blockTests t v k = idleTests t v ++ (noSuchBlock t k, refusal.noSuchPlace) ∷ []
 
--- what is left of the list of save block: 6
+-- 6: and a save of a block of slots ends with this
 abbrev pub slotTests : List ℤ → VersionRecord → ℕ → List (Bool × ℕ)
-slotTests t v k = (blockBroken t v k, 6) ∷ []
+slotTests t v k = (blockBroken t v k, refusal.brokenSlot) ∷ []
 
--- 14, 15, 16: the last is whether its words are wrong
+-- 14, 15, 16: a load ends with these; the last is whether the words of its block are wrong
 abbrev pub endTests : List ℕ → Bool → List (Bool × ℕ)
-endTests block wrong = (notBlock block, 14) ∷ (checkWrong block, 15) ∷ (wrong, 16) ∷ []
+endTests block wrong = (notBlock block, refusal.notBlock) ∷ (checkWrong block, refusal.wrongCheck) ∷ (wrong, refusal.badField) ∷ []

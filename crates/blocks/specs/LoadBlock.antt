@@ -2,31 +2,20 @@
 -- Assumes nothing.
 use mathlib.Core.Path.{_≡_, sym, _∙_}
 use mathlib.Core.Bool.{Bool}
-use mathlib.Core.List.{List, [], _∷_}
+use mathlib.Core.List.{List, _++_}
 use Prim.Native.Nat.{ℕ}
 use lib.IntN.{ℤ}
 use Rattle.laws.specs.First.{first, unless}
 use Rattle.versions.specs.declared.VersionRecord.{VersionRecord}
-use Rattle.versions.specs.Record.{badRecord}
-use Rattle.table.specs.Slots.{badTable}
-use Rattle.blocks_words.specs.Words.{notBlock, checkWrong}
 use Rattle.blocks_words.specs.Longs.{blockSlots}
 use Rattle.blocks_loads.specs.LoadedSlots.{slotBlockWrong, loadedTo}
 use Rattle.blocks.specs.declared.Loaded.{Loaded}
 use Rattle.blocks.specs.declared.Loaded.the-variants.{Done, Refused}
-use Rattle.blocks.specs.SlotBlocks.{noSuchBlock}
+use Rattle.blocks.specs.BlockTests.{blockTests, endTests}
 
 -- Load block: 1, 2, 7, 5, 14, 15, 16
 abbrev pub loadBlockTests : List ℤ → VersionRecord → ℕ → List ℕ → List (Bool × ℕ)
-loadBlockTests t v k block =
-    (badTable t, 1)
-    ∷ (badRecord v, 2)
-    ∷ (v .active, 7)
-    ∷ (noSuchBlock t k, 5)
-    ∷ (notBlock block, 14)
-    ∷ (checkWrong block, 15)
-    ∷ (slotBlockWrong t v k block, 16)
-    ∷ []
+loadBlockTests t v k block = blockTests t v k ++ endTests block (slotBlockWrong t v k block)
 
 unfoldable pub loadBlockRefusal : List ℤ → VersionRecord → ℕ → List ℕ → ℕ
 loadBlockRefusal t v k block = first (loadBlockTests t v k block)

@@ -1,22 +1,18 @@
 -- Load header: its refusals in the document's order, its answer, and the contract that says so. Assumes nothing.
 use mathlib.Core.Path.{_≡_, sym, _∙_}
 use mathlib.Core.Bool.{Bool}
-use mathlib.Core.List.{List, [], _∷_}
+use mathlib.Core.List.{List}
 use Prim.Native.Nat.{ℕ}
 use Rattle.laws.specs.First.{first, unless}
-use Rattle.blocks_words.specs.Words.{notBlock, checkWrong}
 use Rattle.blocks_loads.specs.HeaderFields.{headerWrong}
 use Rattle.blocks.specs.declared.Header.{Header}
 use Rattle.blocks.specs.declared.Header.the-variants.{Refused}
 use Rattle.blocks.specs.HeaderBlocks.{headerOf}
+use Rattle.blocks.specs.BlockTests.{endTests}
 
 -- Load header: 14, 15, 16
 abbrev pub loadHeaderTests : List ℕ → List (Bool × ℕ)
-loadHeaderTests block =
-    (notBlock block, 14)
-    ∷ (checkWrong block, 15)
-    ∷ (headerWrong block, 16)
-    ∷ []
+loadHeaderTests block = endTests block (headerWrong block)
 
 unfoldable pub loadHeaderRefusal : List ℕ → ℕ
 loadHeaderRefusal block = first (loadHeaderTests block)

@@ -2,26 +2,19 @@
 -- Assumes nothing.
 use mathlib.Core.Path.{_≡_, sym, _∙_}
 use mathlib.Core.Bool.{Bool}
-use mathlib.Core.List.{List, [], _∷_}
+use mathlib.Core.List.{List, _++_}
 use Prim.Native.Nat.{ℕ}
 use lib.IntN.{ℤ}
 use Rattle.laws.specs.First.{first, unless}
 use Rattle.versions.specs.declared.VersionRecord.{VersionRecord}
-use Rattle.versions.specs.Record.{badRecord}
-use Rattle.table.specs.Slots.{badTable}
 use Rattle.blocks_words.specs.Words.{blockOf, zeroBlock}
 use Rattle.blocks.specs.declared.Saved.{Saved}
-use Rattle.blocks.specs.SlotBlocks.{noSuchBlock, blockBroken, slotBlockWords}
+use Rattle.blocks.specs.SlotBlocks.{slotBlockWords}
+use Rattle.blocks.specs.BlockTests.{blockTests, slotTests}
 
 -- Save block: 1, 2, 7, 5, 6 (its slots)
 abbrev pub saveBlockTests : List ℤ → VersionRecord → ℕ → List (Bool × ℕ)
-saveBlockTests t v k =
-    (badTable t, 1)
-    ∷ (badRecord v, 2)
-    ∷ (v .active, 7)
-    ∷ (noSuchBlock t k, 5)
-    ∷ (blockBroken t v k, 6)
-    ∷ []
+saveBlockTests t v k = blockTests t v k ++ slotTests t v k
 
 unfoldable pub saveBlockRefusal : List ℤ → VersionRecord → ℕ → ℕ
 saveBlockRefusal t v k = first (saveBlockTests t v k)

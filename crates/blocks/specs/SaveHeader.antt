@@ -2,24 +2,19 @@
 -- Assumes nothing.
 use mathlib.Core.Path.{_≡_, sym, _∙_}
 use mathlib.Core.Bool.{Bool}
-use mathlib.Core.List.{List, [], _∷_}
+use mathlib.Core.List.{List}
 use Prim.Native.Nat.{ℕ}
 use lib.IntN.{ℤ}
 use Rattle.laws.specs.First.{first, unless}
 use Rattle.versions.specs.declared.VersionRecord.{VersionRecord}
-use Rattle.versions.specs.Record.{badRecord}
-use Rattle.table.specs.Slots.{badTable}
 use Rattle.blocks_words.specs.Words.{blockOf, zeroBlock}
 use Rattle.blocks.specs.declared.Saved.{Saved}
 use Rattle.blocks.specs.HeaderBlocks.{headerWords}
+use Rattle.blocks.specs.BlockTests.{idleTests}
 
 -- Save header: 1, 2, 7
 abbrev pub saveHeaderTests : List ℤ → VersionRecord → List (Bool × ℕ)
-saveHeaderTests t v =
-    (badTable t, 1)
-    ∷ (badRecord v, 2)
-    ∷ (v .active, 7)
-    ∷ []
+saveHeaderTests t v = idleTests t v
 
 unfoldable pub saveHeaderRefusal : List ℤ → VersionRecord → ℕ
 saveHeaderRefusal t v = first (saveHeaderTests t v)

@@ -39,13 +39,13 @@ fn idle_refusal(table: &[i64], versions: VersionRecord) -> u32
     ensures { λ r. ⌜ r ≡ first (idleTests (now (table .entry)) versions) ⌝ }
 {
     if table::bad_table(table) {
-        return 1;
+        return refusals::BAD_TABLE;
     }
     if versions::bad_record(versions) {
-        return 2;
+        return refusals::BAD_RECORD;
     }
     if versions.active {
-        return 7;
+        return refusals::RUN_ACTIVE;
     }
     0
 }
@@ -59,7 +59,7 @@ fn block_refusal(table: &[i64], versions: VersionRecord, number: usize) -> u32
         return refusal;
     }
     if slot_blocks::no_such_block(table, number) {
-        return 5;
+        return refusals::NO_SUCH_PLACE;
     }
     0
 }
@@ -107,13 +107,13 @@ pub fn load_header(block: &[u8]) -> Header
     ensures { λ r. ⌜ LoadHeaderContract (now (block .entry)) r ⌝ }
 {
     if block.len() != BLOCK_BYTES {
-        return Header::Refused(14);
+        return Header::Refused(refusals::NOT_BLOCK);
     }
     if blocks_words::check_wrong(block) {
-        return Header::Refused(15);
+        return Header::Refused(refusals::WRONG_CHECK);
     }
     if blocks_loads::header_fields::header_wrong(block) {
-        return Header::Refused(16);
+        return Header::Refused(refusals::BAD_FIELD);
     }
     Header::Holds {
         slots: blocks_words::word_at(block, blocks_loads::header_fields::SLOTS_PLACE),
@@ -130,13 +130,13 @@ pub fn load_block(table: &mut [i64], versions: VersionRecord, number: usize, blo
         return Loaded::Refused(refusal);
     }
     if block.len() != BLOCK_BYTES {
-        return Loaded::Refused(14);
+        return Loaded::Refused(refusals::NOT_BLOCK);
     }
     if blocks_words::check_wrong(block) {
-        return Loaded::Refused(15);
+        return Loaded::Refused(refusals::WRONG_CHECK);
     }
     if blocks_loads::loaded_slots::slot_block_wrong(table, versions, number, block) {
-        return Loaded::Refused(16);
+        return Loaded::Refused(refusals::BAD_FIELD);
     }
     blocks_loads::loaded_slots::load_slots(table, number, block);
     Loaded::Done

@@ -1,3 +1,4 @@
+pub mod Refusals
 pub mod Numbered
 pub mod Seen
 pub mod Rolled

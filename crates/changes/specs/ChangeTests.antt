@@ -4,6 +4,7 @@ use mathlib.Core.Bool.{Bool, cond, not}
 use mathlib.Core.List.{List, [], _∷_, _++_}
 use Prim.Native.Nat.{ℕ}
 use lib.IntN.{ℤ}
+use Rattle.refusals.specs.Refusals as refusal
 use Rattle.laws.specs.First.{first}
 use Rattle.versions.specs.declared.VersionRecord.{VersionRecord}
 use Rattle.versions.specs.Record.{badRecord, idle}
@@ -14,11 +15,12 @@ use Rattle.table_searches.specs.Free.{freeSlot}
 use Rattle.table.specs.Totals.{unlawful}
 use Rattle.table.specs.Formed.{broken}
 
+-- 1, 2, 8: every change begins with these
 abbrev pub runningTests : List ℤ → VersionRecord → List (Bool × ℕ)
 runningTests t v =
-    (badTable t, 1)
-    ∷ (badRecord v, 2)
-    ∷ (idle v, 8)
+    (badTable t, refusal.badTable)
+    ∷ (badRecord v, refusal.badRecord)
+    ∷ (idle v, refusal.noRun)
     ∷ []
 
 unfoldable pub runningRefusal : List ℤ → VersionRecord → ℕ
@@ -37,18 +39,17 @@ noSlot t v key1 key2 = not (ltb (insertSlot t v key1 key2) (slots t))
 abbrev pub notLive : List ℤ → ℤ → ℤ → Bool
 notLive t key1 key2 = not (keyLive t key1 key2)
 
--- ---- the parts of the lists of tests
--- 1, 2, 8, 13: insert and update begin with these, delete with 1, 2, 8
+-- 1, 2, 8, 13: a change with totals begins with these
 abbrev pub givenTests : List ℤ → VersionRecord → ℤ → ℤ → List (Bool × ℕ)
-givenTests t v a b = runningTests t v ++ (unlawful a b, 13) ∷ []
+givenTests t v total1 total2 = runningTests t v ++ (unlawful total1 total2, refusal.badTotal) ∷ []
 
 abbrev pub givenRefusal : List ℤ → VersionRecord → ℤ → ℤ → ℕ
-givenRefusal t v a b = first (givenTests t v a b)
+givenRefusal t v total1 total2 = first (givenTests t v total1 total2)
 
--- 6, 10, 12: insert ends with these
+-- 6, 10, 12: an insert ends with these
 abbrev pub addTests : List ℤ → VersionRecord → ℤ → ℤ → List (Bool × ℕ)
-addTests t v key1 key2 = (broken (keyed t key1 key2) v, 6) ∷ (keyLive t key1 key2, 10) ∷ (noSlot t v key1 key2, 12) ∷ []
+addTests t v key1 key2 = (broken (keyed t key1 key2) v, refusal.brokenSlot) ∷ (keyLive t key1 key2, refusal.keyLive) ∷ (noSlot t v key1 key2, refusal.tableFull) ∷ []
 
--- 6, 11: update and delete end with these
+-- 6, 11: an update and a delete end with these
 abbrev pub changeTests : List ℤ → VersionRecord → ℤ → ℤ → List (Bool × ℕ)
-changeTests t v key1 key2 = (broken (keyed t key1 key2) v, 6) ∷ (notLive t key1 key2, 11) ∷ []
+changeTests t v key1 key2 = (broken (keyed t key1 key2) v, refusal.brokenSlot) ∷ (notLive t key1 key2, refusal.keyNotLive) ∷ []

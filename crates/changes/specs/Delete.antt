@@ -2,29 +2,22 @@
 -- Assumes nothing.
 use mathlib.Core.Path.{_≡_, sym, _∙_}
 use mathlib.Core.Bool.{Bool}
-use mathlib.Core.List.{List, [], _∷_}
+use mathlib.Core.List.{List, _++_}
 use Prim.Native.Nat.{ℕ}
 use lib.IntN.{ℤ}
 use Rattle.laws.specs.First.{first, unless}
 use Rattle.versions.specs.declared.VersionRecord.{VersionRecord}
-use Rattle.versions.specs.Record.{badRecord, idle, runNumber}
-use Rattle.table.specs.Slots.{badTable, putSlot}
-use Rattle.table.specs.Formed.{broken}
+use Rattle.versions.specs.Record.{runNumber}
+use Rattle.table.specs.Slots.{putSlot}
 use Rattle.table_searches.specs.Keys.{keySlot, keyed}
 use Rattle.changes.specs.declared.Placed.{Placed}
 use Rattle.changes.specs.declared.Placed.the-variants.{InSlot, Refused}
 use Rattle.changes_cells.specs.Tables.{deleted}
-use Rattle.changes.specs.ChangeTests.{notLive}
+use Rattle.changes.specs.ChangeTests.{runningTests, changeTests}
 
 -- Delete: 1, 2, 8, 6, 11
 abbrev pub deleteTests : List ℤ → VersionRecord → ℤ → ℤ → List (Bool × ℕ)
-deleteTests t v key1 key2 =
-    (badTable t, 1)
-    ∷ (badRecord v, 2)
-    ∷ (idle v, 8)
-    ∷ (broken (keyed t key1 key2) v, 6)
-    ∷ (notLive t key1 key2, 11)
-    ∷ []
+deleteTests t v key1 key2 = runningTests t v ++ changeTests t v key1 key2
 
 unfoldable pub deleteRefusal : List ℤ → VersionRecord → ℤ → ℤ → ℕ
 deleteRefusal t v key1 key2 = first (deleteTests t v key1 key2)

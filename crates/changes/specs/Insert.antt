@@ -2,32 +2,22 @@
 -- Assumes nothing.
 use mathlib.Core.Path.{_≡_, sym, _∙_}
 use mathlib.Core.Bool.{Bool}
-use mathlib.Core.List.{List, [], _∷_}
+use mathlib.Core.List.{List, _++_}
 use Prim.Native.Nat.{ℕ}
 use lib.IntN.{ℤ}
 use Rattle.laws.specs.First.{first, unless}
 use Rattle.versions.specs.declared.VersionRecord.{VersionRecord}
-use Rattle.versions.specs.Record.{badRecord, idle, runNumber}
-use Rattle.table.specs.Slots.{badTable, putSlot}
-use Rattle.table.specs.Totals.{unlawful}
-use Rattle.table.specs.Formed.{broken}
-use Rattle.table_searches.specs.Keys.{keyed, keyLive}
+use Rattle.versions.specs.Record.{runNumber}
+use Rattle.table.specs.Slots.{putSlot}
+use Rattle.table_searches.specs.Keys.{keyed}
 use Rattle.changes.specs.declared.Placed.{Placed}
 use Rattle.changes.specs.declared.Placed.the-variants.{InSlot, Refused}
 use Rattle.changes_cells.specs.Tables.{inserted}
-use Rattle.changes.specs.ChangeTests.{insertSlot, noSlot}
+use Rattle.changes.specs.ChangeTests.{insertSlot, givenTests, addTests}
 
 -- Insert: 1, 2, 8, 13, 6, 10, 12
 abbrev pub insertTests : List ℤ → VersionRecord → ℤ → ℤ → ℤ → ℤ → List (Bool × ℕ)
-insertTests t v key1 key2 total1 total2 =
-    (badTable t, 1)
-    ∷ (badRecord v, 2)
-    ∷ (idle v, 8)
-    ∷ (unlawful total1 total2, 13)
-    ∷ (broken (keyed t key1 key2) v, 6)
-    ∷ (keyLive t key1 key2, 10)
-    ∷ (noSlot t v key1 key2, 12)
-    ∷ []
+insertTests t v key1 key2 total1 total2 = givenTests t v total1 total2 ++ addTests t v key1 key2
 
 unfoldable pub insertRefusal : List ℤ → VersionRecord → ℤ → ℤ → ℤ → ℤ → ℕ
 insertRefusal t v key1 key2 total1 total2 = first (insertTests t v key1 key2 total1 total2)

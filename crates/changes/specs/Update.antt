@@ -2,31 +2,22 @@
 -- Assumes nothing.
 use mathlib.Core.Path.{_≡_, sym, _∙_}
 use mathlib.Core.Bool.{Bool}
-use mathlib.Core.List.{List, [], _∷_}
+use mathlib.Core.List.{List, _++_}
 use Prim.Native.Nat.{ℕ}
 use lib.IntN.{ℤ}
 use Rattle.laws.specs.First.{first, unless}
 use Rattle.versions.specs.declared.VersionRecord.{VersionRecord}
-use Rattle.versions.specs.Record.{badRecord, idle, runNumber}
-use Rattle.table.specs.Slots.{badTable, putSlot}
-use Rattle.table.specs.Totals.{unlawful}
-use Rattle.table.specs.Formed.{broken}
+use Rattle.versions.specs.Record.{runNumber}
+use Rattle.table.specs.Slots.{putSlot}
 use Rattle.table_searches.specs.Keys.{keySlot, keyed}
 use Rattle.changes.specs.declared.Placed.{Placed}
 use Rattle.changes.specs.declared.Placed.the-variants.{InSlot, Refused}
 use Rattle.changes_cells.specs.Tables.{updated}
-use Rattle.changes.specs.ChangeTests.{notLive}
+use Rattle.changes.specs.ChangeTests.{givenTests, changeTests}
 
 -- Update: 1, 2, 8, 13, 6, 11
 abbrev pub updateTests : List ℤ → VersionRecord → ℤ → ℤ → ℤ → ℤ → List (Bool × ℕ)
-updateTests t v key1 key2 total1 total2 =
-    (badTable t, 1)
-    ∷ (badRecord v, 2)
-    ∷ (idle v, 8)
-    ∷ (unlawful total1 total2, 13)
-    ∷ (broken (keyed t key1 key2) v, 6)
-    ∷ (notLive t key1 key2, 11)
-    ∷ []
+updateTests t v key1 key2 total1 total2 = givenTests t v total1 total2 ++ changeTests t v key1 key2
 
 unfoldable pub updateRefusal : List ℤ → VersionRecord → ℤ → ℤ → ℤ → ℤ → ℕ
 updateRefusal t v key1 key2 total1 total2 = first (updateTests t v key1 key2 total1 total2)

@@ -43,13 +43,13 @@ fn running_refusal(table: &[i64], versions: VersionRecord) -> u32
     ensures { λ r. ⌜ r ≡ runningRefusal (now (table .entry)) versions ⌝ }
 {
     if table::bad_table(table) {
-        return 1;
+        return refusals::BAD_TABLE;
     }
     if versions::bad_record(versions) {
-        return 2;
+        return refusals::BAD_RECORD;
     }
     if !versions.active {
-        return 8;
+        return refusals::NO_RUN;
     }
     0
 }
@@ -63,7 +63,7 @@ fn given_refusal(table: &[i64], versions: VersionRecord, total1: i64, total2: i6
         return refusal;
     }
     if table::is_unlawful(total1, total2) {
-        return 13;
+        return refusals::BAD_TOTAL;
     }
     0
 }
@@ -114,14 +114,14 @@ fn add_row(
     let k = table_searches::key_slot(table, key1, key2);
     let x = table::slot_at(table, k);
     if is_broken(x, versions) {
-        return Placed::Refused(6);
+        return Placed::Refused(refusals::BROKEN_SLOT);
     }
     if table::is_live(x) {
-        return Placed::Refused(10);
+        return Placed::Refused(refusals::KEY_LIVE);
     }
     let taken = slot_to_take(table, versions, k);
     if taken >= table.len() / table::SLOT_WORDS {
-        return Placed::Refused(12);
+        return Placed::Refused(refusals::TABLE_FULL);
     }
     place(
         table,
@@ -147,10 +147,10 @@ fn change_row(
     let k = table_searches::key_slot(table, key1, key2);
     let x = table::slot_at(table, k);
     if is_broken(x, versions) {
-        return Placed::Refused(6);
+        return Placed::Refused(refusals::BROKEN_SLOT);
     }
     if !table::is_live(x) {
-        return Placed::Refused(11);
+        return Placed::Refused(refusals::KEY_NOT_LIVE);
     }
     place(
         table,

@@ -8,6 +8,7 @@ use Prim.Native.Nat.{ℕ, suc, _≤_, _<_}
 use lib.IntN.{ℤ, pos}
 use lib.ListN.{length}
 use Rattle.calls.specs.Terms.{unlawful}
+use Rattle.calls.specs.Refusals as refusal
 use Rattle.calls.specs.Numbered as numbered
 use Rattle.calls.specs.Seen.{Seen}
 use Rattle.calls.specs.Seen as seen
@@ -39,21 +40,21 @@ module _ {K : Kind} where
   pub record Runs (w : World K) : Type 0 where
     pub opened : answerOf (K .openSession) w ≡ answer.numbered (numbered.Version (pos (current (w .told))))
     pub begun : w .told .active ≡ false → current (w .told) < 1000000000 → answerOf (K .begin) w ≡ answer.numbered (numbered.Version (pos (suc (current (w .told)))))
-    pub begun-already : w .told .active ≡ true → answerOf (K .begin) w ≡ answer.numbered (numbered.Refused 7)
-    pub no-version-left : w .told .active ≡ false → 1000000000 ≤ current (w .told) → answerOf (K .begin) w ≡ answer.numbered (numbered.Refused 9)
+    pub begun-already : w .told .active ≡ true → answerOf (K .begin) w ≡ answer.numbered (numbered.Refused refusal.runActive)
+    pub no-version-left : w .told .active ≡ false → 1000000000 ≤ current (w .told) → answerOf (K .begin) w ≡ answer.numbered (numbered.Refused refusal.noVersionLeft)
     pub committed : w .told .active ≡ true → answerOf (K .commit) w ≡ answer.numbered (numbered.Version (pos (suc (current (w .told)))))
-    pub no-run : w .told .active ≡ false → answerOf (K .commit) w ≡ answer.numbered (numbered.Refused 8)
+    pub no-run : w .told .active ≡ false → answerOf (K .commit) w ≡ answer.numbered (numbered.Refused refusal.noRun)
 
   -- ---- a read of a key, and a roll-up, at a committed version s answers from database s, and is refused as expired exactly when
   -- that version is gone
   abbrev pub KeyRead : World K → ℕ → ℤ → ℤ → Type 0
-  KeyRead w s key1 key2 = Until w s (answerOf (K .readKey (pos s) key1 key2) w) (answer.seen (seen.Refused 4)) (answer.seen (found key1 key2 (databaseAt (w .told) s)))
+  KeyRead w s key1 key2 = Until w s (answerOf (K .readKey (pos s) key1 key2) w) (answer.seen (seen.Refused refusal.expired)) (answer.seen (found key1 key2 (databaseAt (w .told) s)))
 
   abbrev pub KeyReads : World K → Type 0
   KeyReads w = (s : ℕ) → Committed (w .told) s → (key1 key2 : ℤ) → KeyRead w s key1 key2
 
   abbrev pub RegionRead : World K → ℕ → ℤ → Type 0
-  RegionRead w s key1 = Until w s (answerOf (K .rollUp (pos s) key1) w) (answer.rolled (rolled.Refused 4)) (answer.rolled (rolledUp key1 (databaseAt (w .told) s)))
+  RegionRead w s key1 = Until w s (answerOf (K .rollUp (pos s) key1) w) (answer.rolled (rolled.Refused refusal.expired)) (answer.rolled (rolledUp key1 (databaseAt (w .told) s)))
 
   abbrev pub RollUps : World K → Type 0
   RollUps w = (s : ℕ) → Committed (w .told) s → (key1 : ℤ) → RegionRead w s key1
@@ -61,8 +62,8 @@ module _ {K : Kind} where
   -- ---- a read of a slot is refused as expired exactly then, or by 5 past the last slot; else it answers no row, or a row of
   -- database s; and it answers the same as long as the version is not gone, whatever is called between
   pub record SlotRead (m : ℕ) (w : World K) (s k : ℕ) : Type 0 where
-    pub gone : IsGone w s → answerOf (K .readSlot (pos s) k) w ≡ answer.seen (seen.Refused 4)
-    pub past : (IsGone w s → ⊥) → m ≤ k → answerOf (K .readSlot (pos s) k) w ≡ answer.seen (seen.Refused 5)
+    pub gone : IsGone w s → answerOf (K .readSlot (pos s) k) w ≡ answer.seen (seen.Refused refusal.expired)
+    pub past : (IsGone w s → ⊥) → m ≤ k → answerOf (K .readSlot (pos s) k) w ≡ answer.seen (seen.Refused refusal.noSuchPlace)
     pub kept : (IsGone w s → ⊥) → k < m → Shows (databaseAt (w .told) s) (answerOf (K .readSlot (pos s) k) w)
     pub stays : (h : List (K .Call)) → NoLoad h w → (IsGone (after h w) s → ⊥) → answerOf (K .readSlot (pos s) k) (after h w) ≡ answerOf (K .readSlot (pos s) k) w
 
@@ -88,7 +89,7 @@ module _ {K : Kind} where
   IsFull m w key1 key2 = (length (heldInRun w) ≡ m) × (holds key1 key2 (heldInRun w) ≡ false)
 
   pub record Full (m : ℕ) (w : World K) (key1 key2 total1 total2 : ℤ) : Type 0 where
-    pub full : IsFull m w key1 key2 → answerOf (K .insert key1 key2 total1 total2) w ≡ answer.placed (placed.Refused 12)
+    pub full : IsFull m w key1 key2 → answerOf (K .insert key1 key2 total1 total2) w ≡ answer.placed (placed.Refused refusal.tableFull)
     pub room : (IsFull m w key1 key2 → ⊥) → accepted (answerOf (K .insert key1 key2 total1 total2) w) ≡ true
 
   abbrev pub Fullness : ℕ → World K → Type 0
@@ -97,19 +98,19 @@ module _ {K : Kind} where
   -- ---- changes: with no run active every one is refused 8; during a run totals that are not lawful are refused 13, an update or
   -- a delete is accepted exactly when its key is in the running database, and else refused 11, and an insert of such a key is refused 10
   pub record Changes (w : World K) (key1 key2 : ℤ) : Type 0 where
-    pub insert-idle : w .told .active ≡ false → (total1 total2 : ℤ) → answerOf (K .insert key1 key2 total1 total2) w ≡ answer.placed (placed.Refused 8)
-    pub update-idle : w .told .active ≡ false → (total1 total2 : ℤ) → answerOf (K .update key1 key2 total1 total2) w ≡ answer.placed (placed.Refused 8)
-    pub delete-idle : w .told .active ≡ false → answerOf (K .delete key1 key2) w ≡ answer.placed (placed.Refused 8)
-    pub insert-unlawful : w .told .active ≡ true → (total1 total2 : ℤ) → unlawful total1 total2 ≡ true → answerOf (K .insert key1 key2 total1 total2) w ≡ answer.placed (placed.Refused 13)
-    pub update-unlawful : w .told .active ≡ true → (total1 total2 : ℤ) → unlawful total1 total2 ≡ true → answerOf (K .update key1 key2 total1 total2) w ≡ answer.placed (placed.Refused 13)
+    pub insert-idle : w .told .active ≡ false → (total1 total2 : ℤ) → answerOf (K .insert key1 key2 total1 total2) w ≡ answer.placed (placed.Refused refusal.noRun)
+    pub update-idle : w .told .active ≡ false → (total1 total2 : ℤ) → answerOf (K .update key1 key2 total1 total2) w ≡ answer.placed (placed.Refused refusal.noRun)
+    pub delete-idle : w .told .active ≡ false → answerOf (K .delete key1 key2) w ≡ answer.placed (placed.Refused refusal.noRun)
+    pub insert-unlawful : w .told .active ≡ true → (total1 total2 : ℤ) → unlawful total1 total2 ≡ true → answerOf (K .insert key1 key2 total1 total2) w ≡ answer.placed (placed.Refused refusal.badTotal)
+    pub update-unlawful : w .told .active ≡ true → (total1 total2 : ℤ) → unlawful total1 total2 ≡ true → answerOf (K .update key1 key2 total1 total2) w ≡ answer.placed (placed.Refused refusal.badTotal)
     pub insert-live : w .told .active ≡ true → (total1 total2 : ℤ) → unlawful total1 total2 ≡ false → holds key1 key2 (running (w .told)) ≡ true
-        → answerOf (K .insert key1 key2 total1 total2) w ≡ answer.placed (placed.Refused 10)
+        → answerOf (K .insert key1 key2 total1 total2) w ≡ answer.placed (placed.Refused refusal.keyLive)
     pub update-live : w .told .active ≡ true → (total1 total2 : ℤ) → unlawful total1 total2 ≡ false → holds key1 key2 (running (w .told)) ≡ true
         → accepted (answerOf (K .update key1 key2 total1 total2) w) ≡ true
     pub update-absent : w .told .active ≡ true → (total1 total2 : ℤ) → unlawful total1 total2 ≡ false → holds key1 key2 (running (w .told)) ≡ false
-        → answerOf (K .update key1 key2 total1 total2) w ≡ answer.placed (placed.Refused 11)
+        → answerOf (K .update key1 key2 total1 total2) w ≡ answer.placed (placed.Refused refusal.keyNotLive)
     pub delete-live : w .told .active ≡ true → holds key1 key2 (running (w .told)) ≡ true → accepted (answerOf (K .delete key1 key2) w) ≡ true
-    pub delete-absent : w .told .active ≡ true → holds key1 key2 (running (w .told)) ≡ false → answerOf (K .delete key1 key2) w ≡ answer.placed (placed.Refused 11)
+    pub delete-absent : w .told .active ≡ true → holds key1 key2 (running (w .told)) ≡ false → answerOf (K .delete key1 key2) w ≡ answer.placed (placed.Refused refusal.keyNotLive)
 
   -- ---- the incident: a region is a first key, its stores the rows that have it. Wherever session s is not refused, the roll-up
   -- of the region is the count and the sums of its stores as the session read them, slot by slot, at any places of the history

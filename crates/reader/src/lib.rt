@@ -57,3 +57,20 @@ pub use table::HIGHEST_TOTAL;
 pub use table::LOWEST_TOTAL;
 // The bytes of a block.
 pub use blocks::BLOCK_BYTES;
+// The refusals by name.
+pub use refusals::BAD_FIELD;
+pub use refusals::BAD_RECORD;
+pub use refusals::BAD_TABLE;
+pub use refusals::BAD_TOTAL;
+pub use refusals::BROKEN_SLOT;
+pub use refusals::EXPIRED;
+pub use refusals::KEY_LIVE;
+pub use refusals::KEY_NOT_LIVE;
+pub use refusals::NO_RUN;
+pub use refusals::NO_SUCH_PLACE;
+pub use refusals::NO_SUCH_VERSION;
+pub use refusals::NO_VERSION_LEFT;
+pub use refusals::NOT_BLOCK;
+pub use refusals::RUN_ACTIVE;
+pub use refusals::TABLE_FULL;
+pub use refusals::WRONG_CHECK;

@@ -1,29 +1,22 @@
 -- Read a key: its refusals in the document's order, its answer, and the contract that says so. Assumes nothing.
 use mathlib.Core.Path.{_≡_, sym, _∙_}
 use mathlib.Core.Bool.{Bool}
-use mathlib.Core.List.{List, [], _∷_}
+use mathlib.Core.List.{List, [], _∷_, _++_}
 use Prim.Native.Nat.{ℕ}
 use lib.IntN.{ℤ}
+use Rattle.refusals.specs.Refusals as refusal
 use Rattle.laws.specs.First.{first, unless}
 use Rattle.versions.specs.declared.VersionRecord.{VersionRecord}
-use Rattle.versions.specs.Record.{badRecord}
-use Rattle.versions.specs.Sessions.{unborn, expired}
-use Rattle.table.specs.Slots.{badTable}
 use Rattle.table.specs.Formed.{broken}
 use Rattle.table_searches.specs.Keys.{keyed}
 use Rattle.reads.specs.declared.Seen.{Seen}
 use Rattle.reads.specs.declared.Seen.the-variants.{Refused}
 use Rattle.reads.specs.Table1.{shown}
+use Rattle.reads.specs.SessionTests.{sessionTests}
 
 -- Read a key: 1, 2, 3, 4, 6. For a key read refusal 6 looks at the key's slot only
 abbrev pub readKeyTests : List ℤ → VersionRecord → ℤ → ℤ → ℤ → List (Bool × ℕ)
-readKeyTests t v s key1 key2 =
-    (badTable t, 1)
-    ∷ (badRecord v, 2)
-    ∷ (unborn v s, 3)
-    ∷ (expired v s, 4)
-    ∷ (broken (keyed t key1 key2) v, 6)
-    ∷ []
+readKeyTests t v s key1 key2 = sessionTests t v s ++ (broken (keyed t key1 key2) v, refusal.brokenSlot) ∷ []
 
 unfoldable pub readKeyRefusal : List ℤ → VersionRecord → ℤ → ℤ → ℤ → ℕ
 readKeyRefusal t v s key1 key2 = first (readKeyTests t v s key1 key2)

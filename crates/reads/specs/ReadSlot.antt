@@ -1,19 +1,19 @@
 -- Read a slot: its refusals in the document's order, its answer, and the contract that says so. Assumes nothing.
 use mathlib.Core.Path.{_≡_, sym, _∙_}
 use mathlib.Core.Bool.{Bool, not}
-use mathlib.Core.List.{List, [], _∷_}
+use mathlib.Core.List.{List, [], _∷_, _++_}
 use Prim.Native.Nat.{ℕ}
 use lib.Dec.{ltb}
 use lib.IntN.{ℤ}
+use Rattle.refusals.specs.Refusals as refusal
 use Rattle.laws.specs.First.{first, unless}
 use Rattle.versions.specs.declared.VersionRecord.{VersionRecord}
-use Rattle.versions.specs.Record.{badRecord}
-use Rattle.versions.specs.Sessions.{unborn, expired}
-use Rattle.table.specs.Slots.{badTable, slots, slotAt}
+use Rattle.table.specs.Slots.{slots, slotAt}
 use Rattle.table.specs.Formed.{broken}
 use Rattle.reads.specs.declared.Seen.{Seen}
 use Rattle.reads.specs.declared.Seen.the-variants.{Refused}
 use Rattle.reads.specs.Table1.{shown}
+use Rattle.reads.specs.SessionTests.{sessionTests}
 
 -- 5: slot number not below the slots
 abbrev pub noSuchSlot : List ℤ → ℕ → Bool
@@ -21,14 +21,7 @@ noSuchSlot t k = not (ltb k (slots t))
 
 -- Read a slot: 1, 2, 3, 4, 5, 6
 abbrev pub readSlotTests : List ℤ → VersionRecord → ℤ → ℕ → List (Bool × ℕ)
-readSlotTests t v s k =
-    (badTable t, 1)
-    ∷ (badRecord v, 2)
-    ∷ (unborn v s, 3)
-    ∷ (expired v s, 4)
-    ∷ (noSuchSlot t k, 5)
-    ∷ (broken (slotAt t k) v, 6)
-    ∷ []
+readSlotTests t v s k = sessionTests t v s ++ (noSuchSlot t k, refusal.noSuchPlace) ∷ (broken (slotAt t k) v, refusal.brokenSlot) ∷ []
 
 unfoldable pub readSlotRefusal : List ℤ → VersionRecord → ℤ → ℕ → ℕ
 readSlotRefusal t v s k = first (readSlotTests t v s k)

@@ -2,15 +2,14 @@
 -- list of rows is `tally`, which knows no table. Assumes nothing.
 use mathlib.Core.Path.{_≡_, sym, _∙_}
 use mathlib.Core.Bool.{Bool, cond}
-use mathlib.Core.List.{List, [], _∷_}
+use mathlib.Core.List.{List, [], _∷_, _++_}
 use Prim.Native.Nat.{ℕ, zero, suc}
 use lib.IntN.{ℤ, pos, _+ℤ_}
+use Rattle.refusals.specs.Refusals as refusal
 use Rattle.laws.specs.First.{first, unless}
 use Rattle.laws.specs.Order.{eqZ}
 use Rattle.versions.specs.declared.VersionRecord.{VersionRecord}
-use Rattle.versions.specs.Record.{badRecord}
-use Rattle.versions.specs.Sessions.{unborn, expired}
-use Rattle.table.specs.Slots.{badTable, slots, slotAt}
+use Rattle.table.specs.Slots.{slots, slotAt}
 use Rattle.table.specs.Formed.{anyBroken}
 use Rattle.reads.specs.declared.Seen.{Seen}
 use Rattle.reads.specs.declared.Seen.the-variants.{Row, NoRow, Refused}
@@ -18,6 +17,7 @@ use Rattle.reads.specs.declared.Rolled.{Rolled}
 use Rattle.reads.specs.declared.Rolled.the-variants as rolled
 use Rattle.reads.specs.declared.Tally as declared
 use Rattle.reads.specs.Table1.{shown}
+use Rattle.reads.specs.SessionTests.{sessionTests}
 
 -- the count of rows and the sums of both totals
 abbrev pub Tally : Type 0
@@ -48,13 +48,7 @@ seen t s (suc n) = shown s (slotAt t n) ∷ seen t s n
 
 -- Roll-up: 1, 2, 3, 4, 6 (any slot)
 abbrev pub rollUpTests : List ℤ → VersionRecord → ℤ → List (Bool × ℕ)
-rollUpTests t v s =
-    (badTable t, 1)
-    ∷ (badRecord v, 2)
-    ∷ (unborn v s, 3)
-    ∷ (expired v s, 4)
-    ∷ (anyBroken t v, 6)
-    ∷ []
+rollUpTests t v s = sessionTests t v s ++ (anyBroken t v, refusal.brokenSlot) ∷ []
 
 unfoldable pub rollUpRefusal : List ℤ → VersionRecord → ℤ → ℕ
 rollUpRefusal t v s = first (rollUpTests t v s)

@@ -4,6 +4,7 @@ ghost use mathlib.Core.Path.{_≡_};
 ghost use mathlib.Core.Bool.{false, cond};
 ghost use mathlib.Core.List.{[], _∷_};
 ghost use Prim.Native.Nat.{_<_};
+ghost use Rattle.refusals.specs.Refusals.{brokenSlot};
 ghost use Rattle.laws.specs.First.{first, unless};
 ghost use Rattle.laws.specs.Cells.{columns, cellAt};
 ghost use Rattle.versions.specs.Record.{badRecord};
@@ -124,17 +125,17 @@ fn session_refusal(table: &[i64], versions: VersionRecord, session: i64) -> u32
     let bad_record = versions::bad_record(versions);
     if bad_table | bad_record {
         if bad_table {
-            return 1;
+            return refusals::BAD_TABLE;
         }
-        return 2;
+        return refusals::BAD_RECORD;
     }
     let unborn = versions::is_unborn(versions, session);
     let expired = versions::is_expired(versions, session);
     if unborn {
-        return 3;
+        return refusals::NO_SUCH_VERSION;
     }
     if expired {
-        return 4;
+        return refusals::EXPIRED;
     }
     0
 }
@@ -142,12 +143,12 @@ fn session_refusal(table: &[i64], versions: VersionRecord, session: i64) -> u32
 // What a session is answered of a slot: refusal 6, or what it sees.
 fn show_formed(x: Slot, versions: VersionRecord, session: i64) -> Seen
     requires { ⌜ badRecord versions ≡ false ⌝ }
-    ensures { λ r. ⌜ r ≡ unless (first ((broken x versions, 6) ∷ [])) Seen.Refused (shown session x) ⌝ }
+    ensures { λ r. ⌜ r ≡ unless (first ((broken x versions, brokenSlot) ∷ [])) Seen.Refused (shown session x) ⌝ }
 {
     if table::well_formed(x, versions) {
         return show(x, session);
     }
-    Seen::Refused(6)
+    Seen::Refused(refusals::BROKEN_SLOT)
 }
 
 // Read a slot.
@@ -159,7 +160,7 @@ pub fn read_slot(table: &[i64], versions: VersionRecord, session: i64, slot: usi
         return Seen::Refused(refusal);
     }
     if slot >= table.len() / table::SLOT_WORDS {
-        return Seen::Refused(5);
+        return Seen::Refused(refusals::NO_SUCH_PLACE);
     }
     show_formed(table::slot_at(table, slot), versions, session)
 }
@@ -223,7 +224,7 @@ pub fn roll_up(table: &[i64], versions: VersionRecord, session: i64, key1: i64) 
     while k < slots {
         let x = table::slot_at(table, k);
         if !table::well_formed(x, versions) {
-            return Rolled::Refused(6);
+            return Rolled::Refused(refusals::BROKEN_SLOT);
         }
         tally = tally_slot(tally, x, session, key1);
         k += 1;

@@ -4,6 +4,7 @@ use mathlib.Core.Path.{_≡_}
 use mathlib.Core.Bool.{Bool, true, false}
 use mathlib.Core.List.{List, [], _∷_}
 use Prim.Native.Nat.{ℕ}
+use Rattle.refusals.specs.Refusals as refusal
 use Rattle.laws.specs.First.{first, unless}
 use Rattle.laws.specs.Order.{eqZ}
 use Rattle.versions.specs.declared.VersionRecord.{VersionRecord}
@@ -14,7 +15,7 @@ use Rattle.versions.specs.Record.{largestVersion, badRecord, idle, runNu
 
 -- ---- open: 2
 abbrev pub openTests : VersionRecord → List (Bool × ℕ)
-openTests v = (badRecord v, 2) ∷ []
+openTests v = (badRecord v, refusal.badRecord) ∷ []
 
 unfoldable pub openRefusal : VersionRecord → ℕ
 openRefusal v = first (openTests v)
@@ -37,9 +38,9 @@ leaving r v = record { answer = r; versions = v }
 -- ---- begin: 2, 7, 9
 abbrev pub beginTests : VersionRecord → List (Bool × ℕ)
 beginTests v =
-    (badRecord v, 2)
-    ∷ (v .active, 7)
-    ∷ (eqZ (v .current) largestVersion, 9)
+    (badRecord v, refusal.badRecord)
+    ∷ (v .active, refusal.runActive)
+    ∷ (eqZ (v .current) largestVersion, refusal.noVersionLeft)
     ∷ []
 
 unfoldable pub beginRefusal : VersionRecord → ℕ
@@ -62,7 +63,7 @@ pub record BeginContract (v : VersionRecord) (r : Turned) : Type 0 where
 
 -- ---- commit: 2, 8
 abbrev pub commitTests : VersionRecord → List (Bool × ℕ)
-commitTests v = (badRecord v, 2) ∷ (idle v, 8) ∷ []
+commitTests v = (badRecord v, refusal.badRecord) ∷ (idle v, refusal.noRun) ∷ []
 
 unfoldable pub commitRefusal : VersionRecord → ℕ
 commitRefusal v = first (commitTests v)

@@ -90,7 +90,7 @@ pub fn open(versions: VersionRecord) -> Numbered
     ensures { λ r. ⌜ OpenContract versions r ⌝ }
 {
     if bad_record(versions) {
-        return Numbered::Refused(2);
+        return Numbered::Refused(refusals::BAD_RECORD);
     }
     let current = versions.current;
     Numbered::Version(current)
@@ -111,14 +111,14 @@ pub fn begin_by_value(versions: VersionRecord) -> Turned
     ensures { λ r. ⌜ BeginContract versions r ⌝ }
 {
     if bad_record(versions) {
-        return kept(versions, 2);
+        return kept(versions, refusals::BAD_RECORD);
     }
     if versions.active {
-        return kept(versions, 7);
+        return kept(versions, refusals::RUN_ACTIVE);
     }
     let current = versions.current;
     if current == VersionRecord::LARGEST {
-        return kept(versions, 9);
+        return kept(versions, refusals::NO_VERSION_LEFT);
     }
     Turned {
         answer: Numbered::Version(run_number(versions)),
@@ -135,11 +135,11 @@ pub fn commit_by_value(versions: VersionRecord) -> Turned
 {
     let bad = bad_record(versions);
     if bad {
-        return kept(versions, 2);
+        return kept(versions, refusals::BAD_RECORD);
     }
     let idle = !versions.active;
     if idle {
-        return kept(versions, 8);
+        return kept(versions, refusals::NO_RUN);
     }
     let next = run_number(versions);
     Turned {
