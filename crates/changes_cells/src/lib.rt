@@ -1,11 +1,8 @@
 // The cells of Tables 2 to 4 of the source: what each leaves of a slot, and the cell that a slot's run and operation choose. All
 // here are leaves for our other crates.
 ghost use mathlib.Core.Path.{_≡_};
-ghost use mathlib.Core.Bool.{false, cond};
-ghost use Prim.Native.Nat.{_<_};
-ghost use Rattle.laws.specs.Cells.{columns, cellAt};
+ghost use mathlib.Core.Bool.{false};
 ghost use Rattle.versions.specs.Record.{badRecord, runNumber};
-ghost use Rattle.table.specs.Slots.{empty};
 ghost use Rattle.changes_cells.specs.Tables.{newInsert, restored, saved, corrected, removed, marked, written, changed};
 use table::Slot;
 use versions::VersionRecord;
@@ -26,26 +23,6 @@ pub const REMOVE: u8 = 5;
 pub const ERASE: u8 = 6;
 
 pub const MARK: u8 = 7;
-
-// The cell of the first row or of the second.
-fn of_rows(older: bool, first: u8, second: u8) -> u8
-    ensures { λ r. ⌜ r ≡ cond older first second ⌝ }
-{
-    if older { first } else { second }
-}
-
-// Each place is a constant, so that a table is read where the code is compiled and not while it runs.
-fn cell_of(cells: [u8; 8], older: bool, column: usize) -> u8
-    requires { ⌜ column < columns ⌝ }
-    ensures { λ r. ⌜ r ≡ cellAt cells older column ⌝ }
-{
-    match column {
-        0 => of_rows(older, cells[0], cells[4]),
-        1 => of_rows(older, cells[1], cells[5]),
-        2 => of_rows(older, cells[2], cells[6]),
-        _ => of_rows(older, cells[3], cells[7]),
-    }
-}
 
 // What each cell leaves of a slot, a function a cell.
 fn new_insert(run: i64, key1: i64, key2: i64, total1: i64, total2: i64) -> Slot
@@ -102,21 +79,6 @@ fn remove(run: i64, mut x: Slot) -> Slot
     x
 }
 
-fn erased() -> Slot
-    ensures { λ r. ⌜ r ≡ empty ⌝ }
-{
-    Slot {
-        run: 0,
-        operation: 0,
-        key1: 0,
-        key2: 0,
-        current1: 0,
-        current2: 0,
-        old1: 0,
-        old2: 0,
-    }
-}
-
 fn mark(mut x: Slot) -> Slot
     ensures { λ r. ⌜ r ≡ marked x ⌝ }
 {
@@ -134,7 +96,7 @@ fn write_cell(cell: u8, run: i64, x: Slot, key1: i64, key2: i64, total1: i64, to
         SAVE => save(run, x, total1, total2),
         CORRECT => correct(x, total1, total2),
         REMOVE => remove(run, x),
-        ERASE => erased(),
+        ERASE => table::empty_slot(),
         MARK => mark(x),
         _ => x,
     }
@@ -155,6 +117,6 @@ pub fn change(
     ensures { λ r. ⌜ r ≡ changed cells (runNumber versions) x key1 key2 total1 total2 ⌝ }
 {
     let run = versions::run_number(versions);
-    let cell = cell_of(cells, x.run < run, table::column_of(x));
+    let cell = table::cell_of(cells, x.run < run, table::column_of(x));
     write_cell(cell, run, x, key1, key2, total1, total2)
 }

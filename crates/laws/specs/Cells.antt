@@ -1,7 +1,6 @@
 -- A decision table is a list of eight cell codes: a row for each result of a test, the row where the test holds first, and
 -- four operations to a row. Assumes nothing.
-use mathlib.Core.Path.{_≡_, refl}
-use mathlib.Core.Bool.{Bool, true, false, cond}
+use mathlib.Core.Bool.{Bool, true, false}
 use mathlib.Core.List.{List}
 use Prim.Native.Nat.{ℕ, _+_}
 use lib.ListN.{getD}
@@ -18,8 +17,3 @@ place false column = columns + column
 -- the cell of a row and a column
 abbrev pub cellAt : List ℕ → Bool → ℕ → ℕ
 cellAt table row column = getD table (place row column) 0
-
--- a column's cell is that of the first row or of the second
-pub of-rows : (table : List ℕ) (row : Bool) (column : ℕ) → cond row (getD table column 0) (getD table (columns + column) 0) ≡ cellAt table row column
-of-rows table true column = refl
-of-rows table false column = refl

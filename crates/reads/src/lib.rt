@@ -1,15 +1,13 @@
 // What a session reads: Table 1, and the three reads, of a slot, of a key, and the roll-up. Each read begins with the tests of
 // its session, and walks the table at most once. `show` is a leaf for our other crates.
 ghost use mathlib.Core.Path.{_≡_};
-ghost use mathlib.Core.Bool.{false, cond};
+ghost use mathlib.Core.Bool.{false};
 ghost use mathlib.Core.List.{[], _∷_};
-ghost use Prim.Native.Nat.{_<_};
 ghost use Rattle.refusals.specs.Refusals.{brokenSlot};
 ghost use Rattle.laws.specs.First.{first, unless};
-ghost use Rattle.laws.specs.Cells.{columns, cellAt};
 ghost use Rattle.versions.specs.Record.{badRecord};
 ghost use Rattle.table.specs.Formed.{broken};
-ghost use Rattle.reads.specs.Table1.{table1, shown};
+ghost use Rattle.reads.specs.Table1.{shown};
 ghost use Rattle.reads.specs.RollUpBounds.{LawfulRow, Bounded};
 ghost use Rattle.reads.specs.SessionTests.{sessionRefusal};
 ghost use Rattle.reads.specs.ReadSlot.{ReadSlotContract};
@@ -66,26 +64,6 @@ const TABLE_1: [u8; 8] = [
     READ_OLD, // delete, before its run
 ];
 
-// The cell of the first row or of the second.
-fn of_rows(seen: bool, from: u8, before: u8) -> u8
-    ensures { λ r. ⌜ r ≡ cond seen from before ⌝ }
-{
-    if seen { from } else { before }
-}
-
-// Each place is a constant, so that the table is read where the code is compiled and not while it runs.
-fn cell_1(seen: bool, column: usize) -> u8
-    requires { ⌜ column < columns ⌝ }
-    ensures { λ r. ⌜ r ≡ cellAt table1 seen column ⌝ }
-{
-    match column {
-        0 => of_rows(seen, TABLE_1[0], TABLE_1[4]),
-        1 => of_rows(seen, TABLE_1[1], TABLE_1[5]),
-        2 => of_rows(seen, TABLE_1[2], TABLE_1[6]),
-        _ => of_rows(seen, TABLE_1[3], TABLE_1[7]),
-    }
-}
-
 // What a session sees of a slot.
 pub fn show(x: Slot, session: i64) -> Seen
     ensures { λ r. ⌜ r ≡ shown session x ⌝ }
@@ -93,7 +71,7 @@ pub fn show(x: Slot, session: i64) -> Seen
     let run = x.run;
     let key1 = x.key1;
     let key2 = x.key2;
-    let cell = cell_1(run <= session, table::column_of(x));
+    let cell = table::cell_of(TABLE_1, run <= session, table::column_of(x));
     if cell == READ_CURRENT {
         let total1 = x.current1;
         let total2 = x.current2;

@@ -4,8 +4,9 @@
 ghost use mathlib.Core.Path.{_≡_};
 ghost use mathlib.Core.Bool.{true, false};
 ghost use Prim.Native.Nat.{_<_};
+ghost use Rattle.laws.specs.Cells.{columns, cellAt};
 ghost use Rattle.versions.specs.Record.{badRecord};
-ghost use Rattle.table.specs.Slots.{badTable, slots, slotAt, putSlot};
+ghost use Rattle.table.specs.Slots.{badTable, slots, empty, slotAt, putSlot};
 ghost use Rattle.table.specs.Operations.{column, live, liveWord};
 ghost use Rattle.table.specs.Totals.{lawful, unlawful};
 ghost use Rattle.table.specs.Formed.{allZeros, totalsLawful, usedWell, wellFormed};
@@ -22,6 +23,9 @@ pub const INSERT: i64 = 1;
 pub const UPDATE: i64 = 2;
 
 pub const DELETE: i64 = 3;
+
+// The columns of a decision table: empty, insert, update, delete.
+const COLUMNS: usize = 4;
 
 // The range of a total.
 pub const LOWEST_TOTAL: i64 = -1_000_000_000_000_000;
@@ -47,22 +51,29 @@ pub fn bad_table(table: &[i64]) -> bool
     (words == 0) | (words % SLOT_WORDS != 0) | (words > MOST_WORDS)
 }
 
+// A slot that holds nothing is all zeros.
+pub fn empty_slot() -> Slot
+    ensures { λ r. ⌜ r ≡ empty ⌝ }
+{
+    Slot {
+        run: 0,
+        operation: 0,
+        key1: 0,
+        key2: 0,
+        current1: 0,
+        current2: 0,
+        old1: 0,
+        old2: 0,
+    }
+}
+
 // The slot at a place, empty past the end.
 pub fn slot_at(table: &[i64], k: usize) -> Slot
     requires { ⌜ badTable (now table) ≡ false ⌝ }
     ensures { λ r. ⌜ r ≡ slotAt (now (table .entry)) k ⌝ }
 {
     if k >= table.len() / SLOT_WORDS {
-        return Slot {
-            run: 0,
-            operation: 0,
-            key1: 0,
-            key2: 0,
-            current1: 0,
-            current2: 0,
-            old1: 0,
-            old2: 0,
-        };
+        return empty_slot();
     }
     let at = k * SLOT_WORDS;
     Slot {
@@ -131,6 +142,15 @@ pub fn column_of(x: Slot) -> usize
         return 3;
     }
     0
+}
+
+// The cell of a decision table: its first row is that where its test holds, and a row has a column for each operation.
+pub fn cell_of(cells: [u8; 8], holds: bool, column: usize) -> u8
+    requires { ⌜ column < columns ⌝ }
+    ensures { λ r. ⌜ r ≡ cellAt cells holds column ⌝ }
+{
+    let row = !holds as usize;
+    cells[row * COLUMNS + column]
 }
 
 // Whether an operation word is that of a live slot.

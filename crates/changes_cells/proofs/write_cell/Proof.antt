@@ -61,5 +61,5 @@ write-cell-spec =
     (tie.spec (λ c κs. search needs) (λ c κs. search needs) (λ c κs. search needs) (λ c κs. search needs)
     (λ c κs. search needs) (λ c κs. search needs) (λ c κs. search needs)
     inserts restores saves corrects removes
-    (λ c. rw (c .before .match .keys6) (c .erased .ensures)) (λ c. rw (c .before .match .keys7) (c .mark .ensures))
+    (λ c. rw (c .before .match .keys6) (c .empty-slot .ensures)) (λ c. rw (c .before .match .keys7) (c .mark .ensures))
     stays)

@@ -13,17 +13,18 @@ use Rattle.reads.specs.Table1.{table1, shown}
 use Rattle.reads.proofs.show.Statement.{statement}
 use Rattle.reads.proofs.show.Tie as tie
 
-abbrev start : tie.After-cell-1 → tie.After-struct-told
-start c = c .before .before .before .before
+-- the place where the range of each word of the slot is known
+abbrev start : tie.After-cell-of → tie.After-struct-told
+start c = let read = c .before .before in read .before .before
 
 fits : (c : tie.After-struct-told) → SlotFits (c .before .args .x)
 fits c = told _ (c .struct-told .given)
 
 -- the cell that was looked up
-cell : (c : tie.After-cell-1) → let a = start c .before .args in c .cell-1 .result ≡ cellAt table1 (leZ (a .x .run) (a .session)) (column (a .x))
+cell : (c : tie.After-cell-of) → let a = start c .before .args in c .cell-of .result ≡ cellAt table1 (leZ (a .x .run) (a .session)) (column (a .x))
 cell c =
     let s = start c in
-    rw (plain _ (fits s .run), plain _ (s .before .fits .session), c .before .column-of .ensures) at (c .cell-1 .ensures)
+    rw (plain _ (fits s .run), plain _ (s .before .fits .session), c .before .column-of .ensures) at (c .cell-of .ensures)
 
 returns : tie.Need-returns
 unfolding shown
@@ -35,9 +36,10 @@ returns c =
 returns-2 : tie.Need-returns-2
 unfolding shown
 returns-2 c =
-    let b = c .before .before .before .before in
+    let old = c .before .before in
+    let b = old .before .before in
     let x = fits (start b) in
-    simp (plain _ (x .key1), plain _ (x .key2), plain _ (x .old1), plain _ (x .old2), ← cell b, ne-eqb _ _ (c .before .before .before .if1 .left), eq-eqb _ _ (c .before .before .if2 .taken))
+    simp (plain _ (x .key1), plain _ (x .key2), plain _ (x .old1), plain _ (x .old2), ← cell b, ne-eqb _ _ (old .before .if1 .left), eq-eqb _ _ (old .if2 .taken))
 
 returns-3 : tie.Need-returns-3
 unfolding shown

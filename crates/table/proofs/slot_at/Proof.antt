@@ -1,5 +1,5 @@
 -- `table::slot_at` meets its contract. Assumes nothing.
-use mathlib.Core.Path.{sym}
+use mathlib.Core.Path.{sym, _∙_}
 use Prim.Native.Nat.{_+_, _*_}
 use borrow.Author.Needs.{needs}
 use Rattle.laws.specs.Bits.{plain}
@@ -9,28 +9,36 @@ use Rattle.table.proofs.slot_at.Statement.{statement}
 use Rattle.table.proofs.slot_at.Tie as tie
 
 returns : tie.Need-returns
-returns c = sym (slotAt-past _ _ (c .before .pre) (c .if1 .taken))
+returns c = let past = c .before in c .empty-slot .ensures ∙ sym (slotAt-past _ _ (past .before .pre) (past .if1 .taken))
 
 returns-2 : tie.Need-returns-2
 unfolding slotAt
 returns-2 c =
-    let t = c .before .before .before .before .before .before .before .before .before .args .table .now in
-    let k = c .before .before .before .before .before .before .before .before .before .args .k in
+    let read7 = c .before in
+    let read6 = read7 .before in
+    let read5 = read6 .before in
+    let read4 = read5 .before in
+    let read3 = read4 .before in
+    let read2 = read3 .before in
+    let read1 = read2 .before in
+    let a = read1 .before .before .args in
+    let t = a .table .now in
+    let at = a .k * 8 in
     simp (
-      plain (word t (k * 8)) (record { sfits = c .before .before .before .before .before .before .before .t8 .given }),
-      plain (word t (k * 8 + 1)) (record { sfits = c .before .before .before .before .before .before .t11 .given }),
-      plain (word t (k * 8 + 2)) (record { sfits = c .before .before .before .before .before .t15 .given }),
-      plain (word t (k * 8 + 3)) (record { sfits = c .before .before .before .before .t19 .given }),
-      plain (word t (k * 8 + 4)) (record { sfits = c .before .before .before .t23 .given }),
-      plain (word t (k * 8 + 5)) (record { sfits = c .before .before .t27 .given }),
-      plain (word t (k * 8 + 6)) (record { sfits = c .before .t31 .given }),
-      plain (word t (k * 8 + 7)) (record { sfits = c .t35 .given }),
+      plain (word t at) (record { sfits = read1 .t8 .given }),
+      plain (word t (at + 1)) (record { sfits = read2 .t11 .given }),
+      plain (word t (at + 2)) (record { sfits = read3 .t15 .given }),
+      plain (word t (at + 3)) (record { sfits = read4 .t19 .given }),
+      plain (word t (at + 4)) (record { sfits = read5 .t23 .given }),
+      plain (word t (at + 5)) (record { sfits = read6 .t27 .given }),
+      plain (word t (at + 6)) (record { sfits = read7 .t31 .given }),
+      plain (word t (at + 7)) (record { sfits = c .t35 .given }),
     )
 
 pub slot-at-spec : {M : Type 1} → statement M
 slot-at-spec =
     tie.close
-    (tie.spec returns
+    (tie.spec (λ c κs. search needs) returns
     (λ c. search needs)
     (λ c. search needs)
     (λ c. search needs)
