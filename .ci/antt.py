@@ -1,5 +1,5 @@
-"""Reading crates.txt, and antt as far as the lints need it: a text without its comments, what its `use` lines bring, what it unfolds, and where a
-path leads. Where antt itself would have to be asked, more is seen than may be there, never less."""
+"""Reading crates.txt, and antt as far as the lints need it: a text without its comments, what its `use` lines bring, what it
+unfolds, and where a path leads. Where antt itself would have to be asked, more is seen than may be there, never less."""
 import functools
 import pathlib
 import re

@@ -1,7 +1,7 @@
 // The face of the library: its calls, their answers, its types and its constants, and nothing else. A host names this crate and
 // no other of ours; what the other crates have beside these are leaves for our own use.
 
-// The version record, with its largest version `Version::LARGEST` and the fresh record `Version::fresh`.
+// The version record, with its largest version `VersionRecord::LARGEST` and the fresh record `VersionRecord::fresh`.
 pub use versions::VersionRecord;
 // What open, begin and commit answer: the number of a version, or a refusal.
 pub use versions::Numbered;
