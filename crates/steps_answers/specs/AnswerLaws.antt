@@ -10,6 +10,6 @@ use Rattle.steps_answers.specs.declared.Turn.{Turn}
 use Rattle.steps_answers.specs.Answers.{reply, wordsAfter, recordAfter, Replied, Answered}
 
 pub answered : {t t′ : List ℤ} {v v′ : VersionRecord} {line reply′ buffer buffer′ : List ℕ} {place : ℕ} {r : Turn} {read command : Command}
-    → read ≡ asked line → read ≡ command → t′ ≡ wordsAfter command t v → v′ ≡ recordAfter command v → reply′ ≡ reply command t v
+    → read ≡ asked line → read ≡ command → t′ ≡ wordsAfter command t v → v′ ≡ recordAfter command t v → reply′ ≡ reply command t v
     → Replied v′ reply′ buffer place r buffer′ → Answered t v line buffer place r t′ buffer′
 answered a c w e l p = let b = sym a ∙ c in record { words = rw b w; replied = rw (b, ← e, ← l) p }

@@ -1,15 +1,13 @@
--- What the program does with a line: what it leaves of the table and of the record, and the line that it answers.
--- Assumes nothing.
+-- What the program does with a line: what it asks is a call of the library, which says what is left of the table and of the
+-- record; and the line that it answers goes by the call's answer. A line that asks nothing leaves all as it was. Assumes nothing.
 use mathlib.Core.Path.{_≡_}
-use mathlib.Core.List.{List}
+use mathlib.Core.List.{List, []}
 use Prim.Native.Nat.{ℕ}
 use lib.IntN.{ℤ}
 use Rattle.versions.specs.declared.VersionRecord.{VersionRecord}
-use Rattle.versions.specs.Runs.{beginAnswer, beginRecord, commitAnswer, commitRecord}
-use Rattle.reads.specs.ReadKey.{readKeyAnswer}
-use Rattle.changes.specs.Insert.{insertAnswer, insertWords}
-use Rattle.changes.specs.Update.{updateAnswer, updateWords}
-use Rattle.changes.specs.Delete.{deleteAnswer, deleteWords}
+use Rattle.calls.specs.Calls.{Call, begin, commit, insert, update, delete, readKey, Answer}
+use Rattle.calls.specs.Calls as answer
+use Rattle.calls.specs.Perform.{State, perform}
 use Rattle.steps_commands.specs.declared.Command.{Command}
 use Rattle.steps_commands.specs.declared.Command.the-variants.{Begin, Commit, Insert, Update, Delete, Read, Bad}
 use Rattle.steps_commands.specs.Commands.{asked}
@@ -17,35 +15,51 @@ use Rattle.steps_replies.specs.Replies.{versionLine, slotLine, rowLine, badLine
 use Rattle.steps_replies.specs.Written.{Written}
 use Rattle.steps_answers.specs.declared.Turn.{Turn}
 
+-- a call, or none
+pub data Asks : Type 0 where
+  asks : Call → Asks
+  nothing : Asks
+
 -- B begin, C commit, I insert, U update, D delete, R read a key; anything else is a bad line
+abbrev pub callOf : Command → Asks
+callOf Begin = asks begin
+callOf Commit = asks commit
+callOf (Insert key1 key2 total1 total2) = asks (insert key1 key2 total1 total2)
+callOf (Update key1 key2 total1 total2) = asks (update key1 key2 total1 total2)
+callOf (Delete key1 key2) = asks (delete key1 key2)
+callOf (Read s key1 key2) = asks (readKey s key1 key2)
+callOf Bad = nothing
+
+-- the line of an answer: the program makes no other calls than these
+abbrev pub lineOf : Answer → List ℕ
+lineOf (answer.numbered r) = versionLine r
+lineOf (answer.seen r) = rowLine r
+lineOf (answer.rolled r) = badLine
+lineOf (answer.placed r) = slotLine r
+lineOf (answer.saved n) = badLine
+lineOf (answer.header r) = badLine
+lineOf (answer.loaded r) = badLine
+
+-- ---- what is lent, what a call leaves of it, and what is replied
+abbrev pub lent : List ℤ → VersionRecord → State
+lent t v = record { words = t; versions = v; block = [] }
+
+abbrev pub leftBy : Asks → State → State
+leftBy (asks call) st = perform call st .state
+leftBy nothing st = st
+
+abbrev pub repliedTo : Asks → State → List ℕ
+repliedTo (asks call) st = lineOf (perform call st .answer)
+repliedTo nothing st = badLine
+
 abbrev pub reply : Command → List ℤ → VersionRecord → List ℕ
-reply Begin t v = versionLine (beginAnswer v)
-reply Commit t v = versionLine (commitAnswer v)
-reply (Insert key1 key2 total1 total2) t v = slotLine (insertAnswer t v key1 key2 total1 total2)
-reply (Update key1 key2 total1 total2) t v = slotLine (updateAnswer t v key1 key2 total1 total2)
-reply (Delete key1 key2) t v = slotLine (deleteAnswer t v key1 key2)
-reply (Read s key1 key2) t v = rowLine (readKeyAnswer t v s key1 key2)
-reply Bad t v = badLine
+reply command t v = repliedTo (callOf command) (lent t v)
 
--- the changes alter the table
 abbrev pub wordsAfter : Command → List ℤ → VersionRecord → List ℤ
-wordsAfter Begin t v = t
-wordsAfter Commit t v = t
-wordsAfter (Insert key1 key2 total1 total2) t v = insertWords t v key1 key2 total1 total2
-wordsAfter (Update key1 key2 total1 total2) t v = updateWords t v key1 key2 total1 total2
-wordsAfter (Delete key1 key2) t v = deleteWords t v key1 key2
-wordsAfter (Read s key1 key2) t v = t
-wordsAfter Bad t v = t
+wordsAfter command t v = leftBy (callOf command) (lent t v) .words
 
--- begin and commit alter the record
-abbrev pub recordAfter : Command → VersionRecord → VersionRecord
-recordAfter Begin v = beginRecord v
-recordAfter Commit v = commitRecord v
-recordAfter (Insert key1 key2 total1 total2) v = v
-recordAfter (Update key1 key2 total1 total2) v = v
-recordAfter (Delete key1 key2) v = v
-recordAfter (Read s key1 key2) v = v
-recordAfter Bad v = v
+abbrev pub recordAfter : Command → List ℤ → VersionRecord → VersionRecord
+recordAfter command t v = leftBy (callOf command) (lent t v) .versions
 
 -- a reply in the buffer, beside the record that is left
 pub record Replied (v : VersionRecord) (line buffer : List ℕ) (place : ℕ) (r : Turn) (buffer′ : List ℕ) : Type 0 where
@@ -55,4 +69,4 @@ pub record Replied (v : VersionRecord) (line buffer : List ℕ) (place : ℕ) (r
 -- a line answered: what it asks is done, and the reply stands in the buffer
 pub record Answered (t : List ℤ) (v : VersionRecord) (line buffer : List ℕ) (place : ℕ) (r : Turn) (t′ : List ℤ) (buffer′ : List ℕ) : Type 0 where
   pub words : t′ ≡ wordsAfter (asked line) t v
-  pub replied : Replied (recordAfter (asked line) v) (reply (asked line) t v) buffer place r buffer′
+  pub replied : Replied (recordAfter (asked line) t v) (reply (asked line) t v) buffer place r buffer′

@@ -27,7 +27,7 @@ freshSession t = record { words = t; versions = freshRecord; line = []; output =
 unfoldable pub ended : LineSession → LineSession
 ended s = record {
   words = wordsAfter (asked (s .line)) (s .words) (s .versions);
-  versions = recordAfter (asked (s .line)) (s .versions);
+  versions = recordAfter (asked (s .line)) (s .words) (s .versions);
   line = [];
   output = s .output ++ reply (asked (s .line)) (s .words) (s .versions);
 }

@@ -59,7 +59,7 @@ stands-ended {s} {l = l} {p = p} w room a =
     let tells : asked (take (p .kept) l) ≡ asked (s .line) = ap asked (w .line) ∙ long.kept (s .line) in
     record {
       words = a .words ∙ rw (tells, w .words, w .versions) refl;
-      versions = a .replied .versions ∙ rw (tells, w .versions) refl;
+      versions = a .replied .versions ∙ rw (tells, w .words, w .versions) refl;
       line = refl;
       output = up-to room (a .replied .written) ∙ rw (tells, w .output, w .words, w .versions) refl;
     }
