@@ -1,2 +1,4 @@
 pub mod Ready
+pub mod Carried
 pub mod ReadyLaws
+pub mod CarriedLaws

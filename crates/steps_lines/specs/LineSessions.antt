@@ -23,6 +23,14 @@ pub record LineSession : Type 0 where
 abbrev pub freshSession : List ℤ → LineSession
 freshSession t = record { words = t; versions = freshRecord; line = []; output = [] }
 
+-- what was answered has been written out: the same session, with nothing answered since
+abbrev pub writtenOut : LineSession → LineSession
+writtenOut s = record { words = s .words; versions = s .versions; line = s .line; output = [] }
+
+-- the same session, with its replies behind those that were written before
+abbrev pub behind : List ℕ → LineSession → LineSession
+behind before s = record { words = s .words; versions = s .versions; line = s .line; output = before ++ s .output }
+
 -- a line that ends is answered, and the next begins
 unfoldable pub ended : LineSession → LineSession
 ended s = record {
