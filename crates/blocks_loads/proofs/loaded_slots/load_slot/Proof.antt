@@ -1,5 +1,6 @@
 -- `blocks_loads::loaded_slots::load_slot` meets its contract: a slot beyond the table is not written. Assumes nothing.
 use Prim.Native.Nat.{_+_}
+use native.Mathlib.Omega.{arith}
 use borrow.Author.Needs.{needs}
 use borrow.Author.Tests.{lt-ltb, le-ltb}
 use Rattle.table.specs.Slots.{slots}
@@ -7,10 +8,14 @@ use Rattle.blocks_loads.specs.LoadedSlots.{firstSlot}
 use Rattle.blocks_loads.proofs.loaded_slots.load_slot.Statement.{statement}
 use Rattle.blocks_loads.proofs.loaded_slots.load_slot.Tie as tie
 
+-- the slot that is written is one of the table
+of-table : tie.Need-put-slot-requires
+of-table c κs = search needs
+
 beyond : tie.Need-returns
 beyond c =
     let a = c .before .before .args in
-    rw (le-ltb (firstSlot (a .number) + a .j) (slots (a .table .now)) (c .if1 .taken))
+    rw (le-ltb (firstSlot (a .number) + a .j) (slots (a .table .now)) (omega arith))
 
 written : tie.Need-returns-2
 written c =
@@ -21,4 +26,4 @@ pub load-slot-spec : {M : Type 1} → statement M
 load-slot-spec =
     tie.close
     (tie.spec (λ c. search needs) (λ c. search needs) (λ c. search needs) beyond
-    (λ c κs. search needs) (λ c κs. search needs) (λ c. search needs) written)
+    (λ c κs. search needs) of-table (λ c. search needs) written)
