@@ -9,7 +9,7 @@ use native.Mathlib.Omega.{arith}
 use lib.Dec.{eqb}
 use lib.ListN.{length}
 use borrow.Author.Tests.{ne-eqb}
-use Rattle.laws.specs.Tests.{by-test}
+use Rattle.laws.specs.TestLaws.{by-test}
 use Rattle.steps_replies.specs.Replies.{newlineByte}
 use Rattle.steps_lines.specs.LineSessions.{LineSession, writtenOut, behind, ended, longer, afterByte, afterBytes, finished}
 
