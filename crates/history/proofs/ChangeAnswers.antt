@@ -1,11 +1,11 @@
 -- What changes of the table of two versions answer where all is well: the shape, the record and the key's slot are sound, so that
 -- what is left to test are the run, the totals, the key and the room. A key is live exactly when its slot shows a row at the run's
 -- number; a slot is free exactly when neither current nor the run's number shows a row of it. Assumes nothing.
-use mathlib.Core.Path.{_≡_, refl, sym, ap, _∙_}
+use mathlib.Core.Path.{_≡_, sym, ap, _∙_}
 use mathlib.Core.Bool.{Bool, true, false, not}
 use mathlib.Core.Logic.{⊎-elim, inl, inr}
 use mathlib.Core.List.{List}
-use Prim.Native.Nat.{ℕ, suc}
+use Prim.Native.Nat.{ℕ}
 use native.Mathlib.Omega.{arith}
 use lib.Dec.{ltb}
 use lib.IntN.{ℤ}

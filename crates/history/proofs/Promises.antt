@@ -2,7 +2,7 @@
 -- such a start; `demanded`, after every history from a fresh one. A read answers what the view shows, which is the database's; a
 -- session's answers are readings of the view, whose rows stay while its version does. Assumes nothing.
 use mathlib.Core.Path.{_≡_, sym, ap, subst, _∙_}
-use mathlib.Core.Bool.{Bool, true, not}
+use mathlib.Core.Bool.{true, not}
 use mathlib.Core.List.{List, [], _∷_}
 use Prim.Native.Nat.{ℕ, suc, _<_}
 use native.Mathlib.Omega.{arith}

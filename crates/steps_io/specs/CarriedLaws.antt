@@ -7,7 +7,7 @@ use Prim.Native.Nat.{ℕ}
 use lib.IntN.{ℤ}
 use lib.ListN.{take}
 use Rattle.steps_lines.specs.declared.Progress.{Progress}
-use Rattle.steps_lines.specs.LineSessions.{LineSession, freshSession, writtenOut, afterBytes, finished}
+use Rattle.steps_lines.specs.LineSessions.{LineSession, freshSession, writtenOut, afterBytes}
 use Rattle.steps_lines.specs.LineSessionLaws.{no-bytes, written-between, written-last}
 use Rattle.steps_lines.specs.Standing.{StandsFor}
 use Rattle.steps_io.specs.declared.Step.{Step}
