@@ -15,20 +15,20 @@ use Rattle.laws.specs.TestLaws.{none-at, not-no, by-test}
 use Rattle.laws.specs.Tests.{any}
 use Rattle.laws.specs.Stores.{sets-before, sets-past, sets-within, by-groups}
 use Rattle.table.specs.declared.Slot.{Slot}
-use Rattle.table.specs.Slots.{slotWords, slots, badTable, wordsOf, empty, word, slotAt, putSlot, freshTable}
+use Rattle.table.specs.Slots.{slotWords, mostSlots, slots, badTable, wordsOf, empty, word, slotAt, putSlot, freshTable}
 
 -- ---- the lengths of a table that is not refused
 pub record Lengths (t : List ℤ) : Type 0 where
   pub whole : length t ≡ slots t * slotWords
   pub some : 0 < slots t
-  pub few : slots t ≤ 1024
+  pub few : slots t ≤ mostSlots
 
 pub lengths : (t : List ℤ) → badTable t ≡ false → Lengths t
 unfolding badTable
 lengths t h =
     let z : length t ≡ 0 → ⊥ = eqb-false _ _ (none-at _ 0 h) in
     let m : length t % slotWords ≡ 0 = eqb-true _ _ (not-no (none-at _ 1 h)) in
-    let l : length t ≤ 8192 = ltb-false _ _ (none-at _ 2 h) in
+    let l : length t ≤ mostSlots * slotWords = ltb-false _ _ (none-at _ 2 h) in
     record { whole = omega arith; some = omega arith; few = omega arith }
 
 -- ---- two slots are one where their eight words are
@@ -119,11 +119,11 @@ fresh-length n = length-replicate (n * slotWords) (pos 0)
 pub fresh-slots : (n : ℕ) → slots (freshTable n) ≡ n
 fresh-slots n = rw (fresh-length n) (omega arith)
 
-pub fresh-shape : (n : ℕ) → 1 ≤ n → n ≤ 1024 → badTable (freshTable n) ≡ false
+pub fresh-shape : (n : ℕ) → 1 ≤ n → n ≤ mostSlots → badTable (freshTable n) ≡ false
 unfolding badTable any
 fresh-shape n l h =
     rw (fresh-length n)
-    (simp (ne-eqb (n * slotWords) 0 (omega arith), eq-eqb (n * slotWords % slotWords) 0 (omega arith), le-ltb 8192 (n * slotWords) (omega arith)))
+    (simp (ne-eqb (n * slotWords) 0 (omega arith), eq-eqb (n * slotWords % slotWords) 0 (omega arith), le-ltb (mostSlots * slotWords) (n * slotWords) (omega arith)))
 
 zero-word : (n i : ℕ) → word (replicate n (pos 0)) i ≡ pos 0
 zero-word n i =

@@ -14,6 +14,10 @@ use Rattle.table.specs.declared.Slot.{Slot}
 abbrev pub slotWords : ℕ
 slotWords = 8
 
+-- at most 1,024 slots
+abbrev pub mostSlots : ℕ
+mostSlots = 1024
+
 -- the number of slots
 abbrev pub slots : List ℤ → ℕ
 slots t = length t / slotWords
@@ -23,7 +27,7 @@ unfoldable pub badTable : List ℤ → Bool
 badTable t =
     any (eqb (length t) 0
     ∷ not (eqb (length t % slotWords) 0)
-    ∷ ltb 8192 (length t)
+    ∷ ltb (mostSlots * slotWords) (length t)
     ∷ [])
 
 -- a fresh table is all zeros

@@ -9,13 +9,32 @@ ghost use Rattle.versions.specs.Record.{badRecord};
 ghost use Rattle.table.specs.Slots.{badTable, slots, empty, slotAt, putSlot};
 ghost use Rattle.table.specs.Operations.{column, live, liveWord};
 ghost use Rattle.table.specs.Totals.{lawful, unlawful};
-ghost use Rattle.table.specs.Formed.{allZeros, totalsLawful, usedWell, wellFormed};
+ghost use Rattle.table.specs.Formed.{allZeros, totalsLawful, usedWell, wellFormed, broken};
 use versions::VersionRecord;
 
 // Eight words to a slot, and at most 1,024 slots.
 pub const SLOT_WORDS: usize = 8;
 
-pub const MOST_WORDS: usize = 8192;
+pub const MOST_SLOTS: usize = 1024;
+
+pub const MOST_WORDS: usize = MOST_SLOTS * SLOT_WORDS;
+
+// The places of a slot's words.
+pub const RUN: usize = 0;
+
+pub const OPERATION: usize = 1;
+
+pub const KEY1: usize = 2;
+
+pub const KEY2: usize = 3;
+
+const CURRENT1: usize = 4;
+
+const CURRENT2: usize = 5;
+
+const OLD1: usize = 6;
+
+const OLD2: usize = 7;
 
 // The operation word.
 pub const INSERT: i64 = 1;
@@ -51,6 +70,13 @@ pub fn bad_table(table: &[i64]) -> bool
     (words == 0) | (words % SLOT_WORDS != 0) | (words > MOST_WORDS)
 }
 
+// The number of slots.
+pub fn slots_of(table: &[i64]) -> usize
+    ensures { λ r. ⌜ r ≡ slots (now (table .entry)) ⌝ }
+{
+    table.len() / SLOT_WORDS
+}
+
 // A slot that holds nothing is all zeros.
 pub fn empty_slot() -> Slot
     ensures { λ r. ⌜ r ≡ empty ⌝ }
@@ -72,23 +98,23 @@ pub fn slot_at(table: &[i64], k: usize) -> Slot
     requires { ⌜ badTable (now table) ≡ false ⌝ }
     ensures { λ r. ⌜ r ≡ slotAt (now (table .entry)) k ⌝ }
 {
-    if k >= table.len() / SLOT_WORDS {
+    if k >= slots_of(table) {
         return empty_slot();
     }
     let at = k * SLOT_WORDS;
     Slot {
-        run: table[at],
-        operation: table[at + 1],
-        key1: table[at + 2],
-        key2: table[at + 3],
-        current1: table[at + 4],
-        current2: table[at + 5],
-        old1: table[at + 6],
-        old2: table[at + 7],
+        run: table[at + RUN],
+        operation: table[at + OPERATION],
+        key1: table[at + KEY1],
+        key2: table[at + KEY2],
+        current1: table[at + CURRENT1],
+        current2: table[at + CURRENT2],
+        old1: table[at + OLD1],
+        old2: table[at + OLD2],
     }
 }
 
-// The slot written at a place.
+// The slot written at a place. A store takes a whole local, so the words have one each first.
 pub fn put_slot(table: &mut [i64], k: usize, x: Slot)
     requires { ⌜ badTable (now table) ≡ false ⌝ }
     requires { ⌜ k < slots (now table) ⌝ }
@@ -103,14 +129,14 @@ pub fn put_slot(table: &mut [i64], k: usize, x: Slot)
     let current2 = x.current2;
     let old1 = x.old1;
     let old2 = x.old2;
-    table[at] = run;
-    table[at + 1] = operation;
-    table[at + 2] = key1;
-    table[at + 3] = key2;
-    table[at + 4] = current1;
-    table[at + 5] = current2;
-    table[at + 6] = old1;
-    table[at + 7] = old2;
+    table[at + RUN] = run;
+    table[at + OPERATION] = operation;
+    table[at + KEY1] = key1;
+    table[at + KEY2] = key2;
+    table[at + CURRENT1] = current1;
+    table[at + CURRENT2] = current2;
+    table[at + OLD1] = old1;
+    table[at + OLD2] = old2;
 }
 
 // A total that may be given and stored.
@@ -169,22 +195,14 @@ pub fn is_live(x: Slot) -> bool
 pub fn all_zeros(x: Slot) -> bool
     ensures { λ r. ⌜ r ≡ allZeros x ⌝ }
 {
-    let run = x.run;
-    let operation = x.operation;
-    let key1 = x.key1;
-    let key2 = x.key2;
-    let current1 = x.current1;
-    let current2 = x.current2;
-    let old1 = x.old1;
-    let old2 = x.old2;
-    (run == 0)
-        & (operation == 0)
-        & (key1 == 0)
-        & (key2 == 0)
-        & (current1 == 0)
-        & (current2 == 0)
-        & (old1 == 0)
-        & (old2 == 0)
+    (x.run == 0)
+        & (x.operation == 0)
+        & (x.key1 == 0)
+        & (x.key2 == 0)
+        & (x.current1 == 0)
+        & (x.current2 == 0)
+        & (x.old1 == 0)
+        & (x.old2 == 0)
 }
 
 fn totals_lawful(x: Slot) -> bool
@@ -208,7 +226,6 @@ fn used_well(x: Slot, versions: VersionRecord) -> bool
         & ((operation != INSERT) | ((old1 == 0) & (old2 == 0)))
 }
 
-// Refusal 6 is that a slot is not.
 pub fn well_formed(x: Slot, versions: VersionRecord) -> bool
     requires { ⌜ badRecord versions ≡ false ⌝ }
     ensures { λ r. ⌜ r ≡ wellFormed x versions ⌝ }
@@ -218,4 +235,12 @@ pub fn well_formed(x: Slot, versions: VersionRecord) -> bool
         return all_zeros(x);
     }
     used_well(x, versions)
+}
+
+// Refusal 6.
+pub fn is_broken(x: Slot, versions: VersionRecord) -> bool
+    requires { ⌜ badRecord versions ≡ false ⌝ }
+    ensures { λ r. ⌜ r ≡ broken x versions ⌝ }
+{
+    !well_formed(x, versions)
 }

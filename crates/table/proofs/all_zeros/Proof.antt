@@ -1,4 +1,4 @@
--- `table::all_zeros` meets its contract. Assumes nothing.
+-- `table::all_zeros`: each word that is compared with 0 fits, so it is 0 as bits exactly if it is as a number. Assumes nothing.
 use lib.IntN.{pos}
 use mir.Syntax.{w64}
 use mir.Val.{SFits}
@@ -10,13 +10,19 @@ use Rattle.table.specs.Fits.{SlotFits, told}
 use Rattle.table.proofs.all_zeros.Statement.{statement}
 use Rattle.table.proofs.all_zeros.Tie as tie
 
-fits : (c : tie.After-struct-told) → SlotFits (c .before .args .x)
+fits : (c : tie.After-struct-told) → SlotFits (c .before .before .args .x)
 fits c = told _ (c .struct-told .given)
 
 returns : tie.Need-returns
 unfolding allZeros all
 returns c =
-    let x = fits (c .before .before .before .before .before .before .before) in
+    let at-old1 = c .before .before in
+    let at-current2 = at-old1 .before .before in
+    let at-current1 = at-current2 .before .before in
+    let at-key2 = at-current1 .before .before in
+    let at-key1 = at-key2 .before .before in
+    let at-operation = at-key1 .before .before in
+    let x = fits (at-operation .before .before) in
     let zero : SFits w64 (pos 0) = search needs in
     simp (
       eq-bits _ (pos 0) (x .run) zero,

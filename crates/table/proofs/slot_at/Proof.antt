@@ -1,6 +1,7 @@
 -- `table::slot_at` meets its contract. Assumes nothing.
 use mathlib.Core.Path.{sym, _∙_}
 use Prim.Native.Nat.{_+_, _*_}
+use native.Mathlib.Nat.{add-zero}
 use borrow.Author.Needs.{needs}
 use Rattle.laws.specs.Bits.{plain}
 use Rattle.table.specs.Slots.{slotAt, word}
@@ -9,7 +10,10 @@ use Rattle.table.proofs.slot_at.Statement.{statement}
 use Rattle.table.proofs.slot_at.Tie as tie
 
 returns : tie.Need-returns
-returns c = let past = c .before in c .empty-slot .ensures ∙ sym (slotAt-past _ _ (past .before .pre) (past .if1 .taken))
+returns c =
+    let past = c .before in
+    let asked = past .before in
+    c .empty-slot .ensures ∙ sym (slotAt-past _ _ (asked .before .pre) (rw (asked .slots-of .ensures) at (past .if1 .taken)))
 
 returns-2 : tie.Need-returns-2
 unfolding slotAt
@@ -21,27 +25,27 @@ returns-2 c =
     let read3 = read4 .before in
     let read2 = read3 .before in
     let read1 = read2 .before in
-    let a = read1 .before .before .args in
+    let a = read1 .before .before .before .args in
     let t = a .table .now in
     let at = a .k * 8 in
     simp (
-      plain (word t at) (record { sfits = read1 .t8 .given }),
-      plain (word t (at + 1)) (record { sfits = read2 .t11 .given }),
-      plain (word t (at + 2)) (record { sfits = read3 .t15 .given }),
-      plain (word t (at + 3)) (record { sfits = read4 .t19 .given }),
-      plain (word t (at + 4)) (record { sfits = read5 .t23 .given }),
-      plain (word t (at + 5)) (record { sfits = read6 .t27 .given }),
-      plain (word t (at + 6)) (record { sfits = read7 .t31 .given }),
-      plain (word t (at + 7)) (record { sfits = c .t35 .given }),
+      plain (word t at) (rw (sym (add-zero at)) (record { sfits = read1 .t8 .given })),
+      add-zero at,
+      plain (word t (at + 1)) (record { sfits = read2 .t12 .given }),
+      plain (word t (at + 2)) (record { sfits = read3 .t16 .given }),
+      plain (word t (at + 3)) (record { sfits = read4 .t20 .given }),
+      plain (word t (at + 4)) (record { sfits = read5 .t24 .given }),
+      plain (word t (at + 5)) (record { sfits = read6 .t28 .given }),
+      plain (word t (at + 6)) (record { sfits = read7 .t32 .given }),
+      plain (word t (at + 7)) (record { sfits = c .t36 .given }),
     )
 
 pub slot-at-spec : {M : Type 1} → statement M
 slot-at-spec =
     tie.close
-    (tie.spec (λ c κs. search needs) returns
+    (tie.spec (λ c κs. search needs) (λ c κs. search needs) returns
     (λ c. search needs)
-    (λ c. search needs)
-    (λ c. search needs)
+    (λ c. search needs) (λ c. search needs) (λ c. search needs)
     (λ c. search needs) (λ c. search needs) (λ c. search needs)
     (λ c. search needs) (λ c. search needs) (λ c. search needs)
     (λ c. search needs) (λ c. search needs) (λ c. search needs)

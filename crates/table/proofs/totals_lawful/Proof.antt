@@ -1,4 +1,4 @@
--- `table::totals_lawful` meets its contract. Assumes nothing.
+-- `table::totals_lawful`: each total is asked of in the list's order. Assumes nothing.
 use borrow.Author.Needs.{needs}
 use Rattle.laws.specs.Tests.{all}
 use Rattle.laws.specs.Bits.{plain}
@@ -13,12 +13,15 @@ fits c = told _ (c .struct-told .given)
 returns : tie.Need-returns
 unfolding totalsLawful all
 returns c =
-    let x = fits (c .before .before .before .before .before .before .before) in
+    let at-old1 = c .before .before in
+    let at-current2 = at-old1 .before .before in
+    let at-current1 = at-current2 .before .before in
+    let x = fits (at-current1 .before) in
     simp (
       c .is-lawful4 .ensures,
-      c .before .before .is-lawful3 .ensures,
-      c .before .before .before .before .is-lawful2 .ensures,
-      c .before .before .before .before .before .before .is-lawful .ensures,
+      at-old1 .is-lawful3 .ensures,
+      at-current2 .is-lawful2 .ensures,
+      at-current1 .is-lawful .ensures,
       plain _ (x .current1),
       plain _ (x .current2),
       plain _ (x .old1),

@@ -1,4 +1,4 @@
--- `table::used_well` meets its contract. Assumes nothing.
+-- `table::used_well`: its four tests are the definition's; the words that they compare fit, so bits are numbers. Assumes nothing.
 use lib.IntN.{pos}
 use mir.Syntax.{w64}
 use mir.Val.{SFits}
@@ -16,8 +16,10 @@ fits c = told _ (c .struct-told .given)
 returns : tie.Need-returns
 unfolding usedWell all
 returns c =
-    let x = fits (c .before .before .before .before .before) in
-    let t = c .before .last-run in
+    let at-last = c .before in
+    let at-old1 = at-last .before .before in
+    let x = fits (at-old1 .before .before) in
+    let t = at-last .last-run in
     let last : SFits w64 (t .result) = record { sfits = t .ok } in
     simp (
       plain _ (rw (t .ensures) at last),
