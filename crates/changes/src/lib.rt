@@ -78,21 +78,13 @@ fn place(table: &mut [i64], k: usize, x: Slot) -> Placed
     Placed::InSlot(k)
 }
 
-// Refusal 6, of the key's slot.
-fn is_broken(x: Slot, versions: VersionRecord) -> bool
-    requires { ⌜ badRecord versions ≡ false ⌝ }
-    ensures { λ r. ⌜ r ≡ broken x versions ⌝ }
-{
-    !table::well_formed(x, versions)
-}
-
 // The number of the slot that an insert takes: that of the key's, or where the key has none that of a free one.
 fn slot_to_take(table: &[i64], versions: VersionRecord, k: usize) -> usize
     requires { ⌜ badTable (now table) ≡ false ⌝ }
     requires { ⌜ badRecord versions ≡ false ⌝ }
     ensures { λ r. ⌜ r ≡ cond (ltb k (slots (now (table .entry)))) k (freeSlot (now (table .entry)) versions) ⌝ }
 {
-    if k < table.len() / table::SLOT_WORDS {
+    if k < table::slots_of(table) {
         return k;
     }
     table_searches::free_slot(table, versions)
@@ -113,14 +105,14 @@ fn add_row(
 {
     let k = table_searches::key_slot(table, key1, key2);
     let x = table::slot_at(table, k);
-    if is_broken(x, versions) {
+    if table::is_broken(x, versions) {
         return Placed::Refused(refusals::BROKEN_SLOT);
     }
     if table::is_live(x) {
         return Placed::Refused(refusals::KEY_LIVE);
     }
     let taken = slot_to_take(table, versions, k);
-    if taken >= table.len() / table::SLOT_WORDS {
+    if taken >= table::slots_of(table) {
         return Placed::Refused(refusals::TABLE_FULL);
     }
     place(
@@ -146,7 +138,7 @@ fn change_row(
 {
     let k = table_searches::key_slot(table, key1, key2);
     let x = table::slot_at(table, k);
-    if is_broken(x, versions) {
+    if table::is_broken(x, versions) {
         return Placed::Refused(refusals::BROKEN_SLOT);
     }
     if !table::is_live(x) {

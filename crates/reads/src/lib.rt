@@ -123,10 +123,10 @@ fn show_formed(x: Slot, versions: VersionRecord, session: i64) -> Seen
     requires { ⌜ badRecord versions ≡ false ⌝ }
     ensures { λ r. ⌜ r ≡ unless (first ((broken x versions, brokenSlot) ∷ [])) Seen.Refused (shown session x) ⌝ }
 {
-    if table::well_formed(x, versions) {
-        return show(x, session);
+    if table::is_broken(x, versions) {
+        return Seen::Refused(refusals::BROKEN_SLOT);
     }
-    Seen::Refused(refusals::BROKEN_SLOT)
+    show(x, session)
 }
 
 // Read a slot.
@@ -137,7 +137,7 @@ pub fn read_slot(table: &[i64], versions: VersionRecord, session: i64, slot: usi
     if refusal != 0 {
         return Seen::Refused(refusal);
     }
-    if slot >= table.len() / table::SLOT_WORDS {
+    if slot >= table::slots_of(table) {
         return Seen::Refused(refusals::NO_SUCH_PLACE);
     }
     show_formed(table::slot_at(table, slot), versions, session)
@@ -152,7 +152,7 @@ pub fn read_key(table: &[i64], versions: VersionRecord, session: i64, key1: i64,
         return Seen::Refused(refusal);
     }
     let k = table_searches::key_slot(table, key1, key2);
-    if k >= table.len() / table::SLOT_WORDS {
+    if k >= table::slots_of(table) {
         return Seen::NoRow;
     }
     show_formed(table::slot_at(table, k), versions, session)
@@ -192,7 +192,7 @@ pub fn roll_up(table: &[i64], versions: VersionRecord, session: i64, key1: i64) 
     if refusal != 0 {
         return Rolled::Refused(refusal);
     }
-    let slots = table.len() / table::SLOT_WORDS;
+    let slots = table::slots_of(table);
     let mut tally = Tally {
         count: 0,
         total1: 0,
@@ -201,7 +201,7 @@ pub fn roll_up(table: &[i64], versions: VersionRecord, session: i64, key1: i64) 
     let mut k: usize = 0;
     while k < slots {
         let x = table::slot_at(table, k);
-        if !table::well_formed(x, versions) {
+        if table::is_broken(x, versions) {
             return Rolled::Refused(refusals::BROKEN_SLOT);
         }
         tally = tally_slot(tally, x, session, key1);

@@ -68,7 +68,7 @@ unfolding slotAt
 key2-at t k = refl
 
 -- a word of a slot further on
-pub word-on : (t : List ℤ) (k i n : ℕ) → word t ((k + i) * slotWords + n) ≡ word t (k * slotWords + (i * slotWords + n))
+pub word-on : (t : List ℤ) (k i n : ℕ) → word t ((k + i) * slotWords + n) ≡ word t (k * slotWords + i * slotWords + n)
 word-on t k i n = ap (word t) (omega arith)
 
 -- ---- a slot past the end is empty

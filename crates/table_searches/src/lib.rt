@@ -12,6 +12,10 @@ ghost use Rattle.table_searches.specs.Keys.{hasKey, keySlot};
 ghost use Rattle.table_searches.specs.KeySearch.{Keyless, FourApart};
 ghost use Rattle.table_searches.specs.Free.{longDeleted, free, freeSlot};
 ghost use Rattle.table_searches.specs.FreeSearch.{Taken, FourLive};
+use table::KEY1;
+use table::KEY2;
+use table::OPERATION;
+use table::SLOT_WORDS;
 use table::Slot;
 use versions::VersionRecord;
 
@@ -21,14 +25,14 @@ fn has_key(table: &[i64], k: usize, key1: i64, key2: i64) -> bool
     requires { ⌜ k < slots (now table) ⌝ }
     ensures { λ r. ⌜ r ≡ hasKey (slotAt (now (table .entry)) k) key1 key2 ⌝ }
 {
-    let at = k * table::SLOT_WORDS;
-    if table[at + 3] != key2 {
+    let at = k * SLOT_WORDS;
+    if table[at + KEY2] != key2 {
         return false;
     }
-    if table[at + 2] != key1 {
+    if table[at + KEY1] != key1 {
         return false;
     }
-    if table[at + 1] == 0 {
+    if table[at + OPERATION] == 0 {
         return false;
     }
     true
@@ -40,11 +44,11 @@ fn four_apart(table: &[i64], k: usize, key2: i64) -> bool
     requires { ⌜ k + 4 ≤ slots (now table) ⌝ }
     ensures { λ r. ⌜ (r ≡ true → FourApart (now (table .entry)) k key2) ⌝ }
 {
-    let at = k * table::SLOT_WORDS;
-    (table[at + 3] != key2)
-        & (table[at + 11] != key2)
-        & (table[at + 19] != key2)
-        & (table[at + 27] != key2)
+    let at = k * SLOT_WORDS;
+    (table[at + KEY2] != key2)
+        & (table[at + SLOT_WORDS + KEY2] != key2)
+        & (table[at + 2 * SLOT_WORDS + KEY2] != key2)
+        & (table[at + 3 * SLOT_WORDS + KEY2] != key2)
 }
 
 // The lowest slot below an end that has the key, or the end, looked for from a place on below which none has it.
@@ -69,7 +73,7 @@ pub fn key_slot(table: &[i64], key1: i64, key2: i64) -> usize
     requires { ⌜ badTable (now table) ≡ false ⌝ }
     ensures { λ r. ⌜ r ≡ keySlot (now (table .entry)) key1 key2 ⌝ }
 {
-    let slots = table.len() / table::SLOT_WORDS;
+    let slots = table::slots_of(table);
     let mut k: usize = 0;
     while k + 4 <= slots {
         if !four_apart(table, k, key2) {
@@ -107,7 +111,7 @@ fn free_at(table: &[i64], k: usize, versions: VersionRecord) -> bool
     requires { ⌜ badRecord versions ≡ false ⌝ }
     ensures { λ r. ⌜ r ≡ free (slotAt (now (table .entry)) k) versions ⌝ }
 {
-    if table::lives(table[k * table::SLOT_WORDS + 1]) {
+    if table::lives(table[k * SLOT_WORDS + OPERATION]) {
         return false;
     }
     is_free(table::slot_at(table, k), versions)
@@ -119,11 +123,11 @@ fn four_live(table: &[i64], k: usize) -> bool
     requires { ⌜ k + 4 ≤ slots (now table) ⌝ }
     ensures { λ r. ⌜ (r ≡ true → FourLive (now (table .entry)) k) ⌝ }
 {
-    let at = k * table::SLOT_WORDS;
-    table::lives(table[at + 1])
-        & table::lives(table[at + 9])
-        & table::lives(table[at + 17])
-        & table::lives(table[at + 25])
+    let at = k * SLOT_WORDS;
+    table::lives(table[at + OPERATION])
+        & table::lives(table[at + SLOT_WORDS + OPERATION])
+        & table::lives(table[at + 2 * SLOT_WORDS + OPERATION])
+        & table::lives(table[at + 3 * SLOT_WORDS + OPERATION])
 }
 
 // The lowest free slot below an end, or the end, looked for from a place on below which none is free.
@@ -150,7 +154,7 @@ pub fn free_slot(table: &[i64], versions: VersionRecord) -> usize
     requires { ⌜ badRecord versions ≡ false ⌝ }
     ensures { λ r. ⌜ r ≡ freeSlot (now (table .entry)) versions ⌝ }
 {
-    let slots = table.len() / table::SLOT_WORDS;
+    let slots = table::slots_of(table);
     let mut place: usize = 0;
     while place + 4 <= slots {
         if !four_live(table, place) {

@@ -53,8 +53,10 @@ taken c = rw (look (c .before .before .before .before .before) .number) at (c .s
 
 is12 : tie.Need-returns-3
 is12 c =
-    let e = c .before .before .before in
-    let test = ap not (le-ltb _ _ (rw (taken (c .before)) at (c .if3 .taken))) in
+    let counted = c .before in
+    let picked = counted .before .before in
+    let e = picked .before .before in
+    let test = ap not (le-ltb _ _ (rw (counted .slots-of .ensures, taken picked) at (c .if3 .taken))) in
     record { leaves = refused (skip _ _ (past6 (e .before .before)) ∙ skip _ _ (past10 e) ∙ hit _ test) (omega arith) }
 
 adds : tie.Need-returns-4
@@ -62,17 +64,19 @@ adds c =
     let p = c .before in
     let w = p .before in
     let h = w .before .before in
-    let e = h .before .before .before in
+    let counted = h .before in
+    let picked = counted .before .before in
+    let e = picked .before .before in
     let g = e .before .before in
     let f = s10 e .fits in
-    let past12 = ap not (lt-ltb _ _ (rw (taken (h .before)) at (h .if3 .left))) in
+    let past12 = ap not (lt-ltb _ _ (rw (counted .slots-of .ensures, taken picked) at (h .if3 .left))) in
     let y = rw (look (g .before) .slot, plain _ (f .key1), plain _ (f .key2), plain _ (f .total1), plain _ (f .total2)) at (w .change .ensures) in
-    record { leaves = passed (skip _ _ (past6 g) ∙ skip _ _ (past10 e) ∙ skip _ _ past12 ∙ done) (rw (taken (h .before), y) at (p .place .ensures)) }
+    record { leaves = passed (skip _ _ (past6 g) ∙ skip _ _ (past10 e) ∙ skip _ _ past12 ∙ done) (rw (taken picked, y) at (p .place .ensures)) }
 
 pub add-row-spec : {M : Type 1} → statement M
 add-row-spec =
     tie.close
     (tie.spec (λ c κs. search needs) (λ c κs. search needs) (λ c κs. search needs) (λ c. search needs) is6
     (λ c κs. search needs) (λ c. search needs) is10
-    (λ c κs. search needs) (λ c. search needs) is12
+    (λ c κs. search needs) (λ c κs. search needs) (λ c. search needs) is12
     (λ c κs. search needs) (λ c κs. search needs) (λ c. search needs) adds)

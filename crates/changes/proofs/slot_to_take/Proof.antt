@@ -7,5 +7,5 @@ use Rattle.changes.proofs.slot_to_take.Tie as tie
 pub slot-to-take-spec : {M : Type 1} → statement M
 slot-to-take-spec =
     tie.close
-    (tie.spec (λ c. simp (lt-ltb _ _ (c .if1 .taken))) (λ c κs. search needs)
-    (λ c. simp (le-ltb _ _ (c .before .if1 .left), c .free-slot .ensures)))
+    (tie.spec (λ c κs. search needs) (λ c. simp (lt-ltb _ _ (rw (c .before .slots-of .ensures) at (c .if1 .taken))))
+    (λ c κs. search needs) (λ c. simp (le-ltb _ _ (rw (c .before .before .slots-of .ensures) at (c .before .if1 .left)), c .free-slot .ensures)))

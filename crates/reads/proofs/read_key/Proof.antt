@@ -42,6 +42,10 @@ past4 c = pass (sessionTests _ _ _) _ tt (asked (c .before) ∙ c .if1 .left)
 found : (c : tie.After-key-slot) → let a = s4 (c .before) .args in c .key-slot .result ≡ keySlot (a .table .now) (a .key1) (a .key2)
 found c = let f = s4 (c .before) .fits in rw (plain _ (f .key1), plain _ (f .key2)) at (c .key-slot .ensures)
 
+-- past 4, from the place where it was found
+abbrev s-found : tie.Else2 → P4
+s-found c = c .before .before .before
+
 is1-to-4 : tie.Need-returns
 unfolding readKeyRefusal readKeyAnswer sessionRefusal
 is1-to-4 c = record { answer = unless-refused Refused _ (stop (sessionTests _ _ _) _ _ (asked (c .before)) (c .if1 .taken)) (c .if1 .taken) }
@@ -50,22 +54,26 @@ is1-to-4 c = record { answer = unless-refused Refused _ (stop (sessionTests _ _ 
 absent : tie.Need-returns-2
 unfolding readKeyAnswer
 absent c =
-    let k = c .before in
+    let counted = c .before in
+    let k = counted .before in
     let p = k .before in
     let a = s4 p .args in
-    let e : keyed (a .table .now) (a .key1) (a .key2) ≡ empty = slotAt-past _ _ (can p .table) (rw (found k) at (c .if2 .taken)) in
+    let past = rw (counted .slots-of .ensures, found k) at (c .if2 .taken) in
+    let e : keyed (a .table .now) (a .key1) (a .key2) ≡ empty = slotAt-past _ _ (can p .table) past in
     record { answer = unless-done Refused (past4 p ∙ skip _ _ (rw e (ap not (empty-formed _))) ∙ done) (rw e (sym (shown-empty _))) }
 
 shows : tie.Need-returns-3
 unfolding readKeyAnswer
 shows c =
     let x = c .before in
-    let k = x .before .before in
+    let k = x .before .before .before in
     let p = k .before in
     record { answer = rw (past4 p) (rw (plain _ (s4 p .fits .session), x .slot-at .ensures, found k) at (c .show-formed .ensures)) }
 
 pub read-key-spec : {M : Type 1} → statement M
 read-key-spec =
     tie.close
-    (tie.spec (λ c κs. search needs) is1-to-4 (λ c κs. can c .table) absent
-    (λ c κs. can (c .before .before) .table) (λ c κs. can (c .before .before .before) .known) shows)
+    (tie.spec (λ c κs. search needs) is1-to-4
+    (λ c κs. can c .table)
+    (λ c κs. search needs) absent
+    (λ c κs. can (s-found c) .table) (λ c κs. can (s-found (c .before)) .known) shows)

@@ -27,7 +27,7 @@ abbrev s4 : P4 → tie.Start
 s4 c = c .before .before
 
 abbrev s5 : P5 → tie.Start
-s5 c = s4 (c .before)
+s5 c = s4 (c .before .before)
 
 -- the refusal is that of the tests after number n
 abbrev Past : ℕ → tie.Start → Type 0
@@ -48,7 +48,7 @@ unfolding readSlotRefusal sessionRefusal
 past4 c = pass (sessionTests _ _ _) _ tt (asked (c .before) ∙ c .if1 .left)
 
 past5 : (c : P5) → Past 5 (s5 c)
-past5 c = past4 (c .before) ∙ skip _ _ (ap not (lt-ltb _ _ (c .if2 .left)))
+past5 c = past4 (c .before .before) ∙ skip _ _ (ap not (lt-ltb _ _ (rw (c .before .slots-of .ensures) at (c .if2 .left))))
 
 is1-to-4 : tie.Need-returns
 unfolding readSlotRefusal readSlotAnswer sessionRefusal
@@ -56,7 +56,7 @@ is1-to-4 c = record { answer = unless-refused Refused _ (stop (sessionTests _ _ 
 
 is5 : tie.Need-returns-2
 unfolding readSlotAnswer
-is5 c = record { answer = unless-refused Refused _ (past4 (c .before) ∙ hit _ (ap not (le-ltb _ _ (c .if2 .taken)))) (omega arith) }
+is5 c = record { answer = unless-refused Refused _ (past4 (c .before .before) ∙ hit _ (ap not (le-ltb _ _ (rw (c .before .slots-of .ensures) at (c .if2 .taken))))) (omega arith) }
 
 shows : tie.Need-returns-3
 unfolding readSlotAnswer
@@ -67,4 +67,7 @@ shows c =
 
 pub read-slot-spec : {M : Type 1} → statement M
 read-slot-spec =
-    tie.close (tie.spec (λ c κs. search needs) is1-to-4 is5 (λ c κs. can (c .before) .table) (λ c κs. can (c .before .before) .known) shows)
+    tie.close
+    (tie.spec (λ c κs. search needs) is1-to-4
+    (λ c κs. search needs) is5
+    (λ c κs. can (c .before .before) .table) (λ c κs. can (c .before .before .before) .known) shows)

@@ -30,11 +30,11 @@ use Rattle.reads.proofs.roll_up.Statement.{statement}
 use Rattle.reads.proofs.roll_up.Tie as tie
 
 abbrev Inv-loop : tie.InvT-loop
-Inv-loop table versions session key1 refusal slots n₀ k₀ n k =
-    (k ≤ slots) × (n ≡ tally (toZ w64 key1) (seen table (toZ w64 session) k)) × ((j : ℕ) → j < k → broken (slotAt table j) versions ≡ false)
+Inv-loop table versions session key1 refusal count n₀ k₀ n k =
+    (k ≤ count) × (n ≡ tally (toZ w64 key1) (seen table (toZ w64 session) k)) × ((j : ℕ) → j < k → broken (slotAt table j) versions ≡ false)
 
 abbrev μ-loop : tie.MeasureT-loop
-μ-loop table versions session key1 refusal slots n₀ k₀ n k = slots - k
+μ-loop table versions session key1 refusal count n₀ k₀ n k = count - k
 
 -- the place past refusal 4, and the start from it
 abbrev P4 : Type 0
@@ -60,10 +60,17 @@ past4 : (c : P4) → Past 4 (s4 c)
 unfolding rollUpRefusal sessionRefusal
 past4 c = pass (sessionTests _ _ _) _ tt (asked (c .before) ∙ c .if1 .left)
 
+-- the loop is past refusal 4, and its end is the number of slots
+abbrev opens : tie.At-loop Inv-loop μ-loop → P4
+opens l = l .before .before
+
+count : (l : tie.At-loop Inv-loop μ-loop) → l .before .slots-of .result ≡ slots (s4 (opens l) .args .table .now)
+count l = l .before .slots-of .ensures
+
 -- the slot at k was tested
-tested : (c : tie.After-well-formed Inv-loop μ-loop) → let l = c .before .before .before in
-    not (c .well-formed .result) ≡ broken (slotAt (s4 (l .before) .args .table .now) (l .loop .k)) (s4 (l .before) .args .versions)
-tested c = ap not (rw (c .before .slot-at .ensures) at (c .well-formed .ensures))
+tested : (c : tie.After-is-broken Inv-loop μ-loop) → let l = c .before .before .before in let a = s4 (opens l) .args in
+    c .is-broken .result ≡ broken (slotAt (a .table .now) (l .loop .k)) (a .versions)
+tested c = rw (c .before .slot-at .ensures) at (c .is-broken .ensures)
 
 is1-to-4 : tie.Need-returns Inv-loop μ-loop
 unfolding rollUpRefusal rollUpAnswer sessionRefusal
@@ -75,45 +82,46 @@ is6 c =
     let w = c .before in
     let l = w .before .before .before in
     let h = sym (tested w) ∙ c .if2 .taken in
-    record { answer = unless-refused Refused _ (past4 (l .before) ∙ hit _ (by-test _ (λ y. y) (λ n. clash (none-broken _ _ n _ (omega arith)) (not-yes h)))) (omega arith) }
+    record { answer = unless-refused Refused _ (past4 (opens l) ∙ hit _ (by-test _ (λ y. y) (λ n. clash (none-broken _ _ n _ (omega (arith, count l))) (not-yes h)))) (omega arith) }
 
 -- the tally so far is of fewer than 1,024 rows
 small : tie.Need-tally-slot-requires Inv-loop μ-loop
 small c κs =
     let x = c .before .before in
     let l = x .before .before in
-    let few = lengths _ (can (l .before) .table) .few in
+    let few = lengths _ (can (opens l) .table) .few in
     let bounds = tally-bounded _ _ _ _ (l .loop .k) (λ j h. not-no (l .loop .inv .2 j h)) in
-    (rw (x .slot-at .ensures) (shown-lawful _ _ _ (not-no (sym (tested (c .before)) ∙ c .if2 .left))), rw (l .loop .inv .1) (bounded-more (omega arith) bounds))
+    (rw (x .slot-at .ensures) (shown-lawful _ _ _ (not-no (sym (tested (c .before)) ∙ c .if2 .left))), rw (l .loop .inv .1) (bounded-more (omega (arith, count l)) bounds))
 
 again : tie.Need-loop-again Inv-loop μ-loop
 again c =
     let e = c .before in
     let x = e .before .before in
     let l = x .before .before in
-    let a = s4 (l .before) .args in (
+    let a = s4 (opens l) .args in (
       omega arith,
       rw (add-one (l .loop .k)) (rw (x .slot-at .ensures, l .loop .inv .1) at (c .tally-slot .ensures)),
       below-next {p = λ j. broken (slotAt (a .table .now) j) (a .versions)} (l .loop .inv .2) (sym (tested (e .before)) ∙ e .if2 .left),
     )
 
 -- past the last slot the tally is that of all
-whole : (c : tie.After-loop Inv-loop μ-loop) → let a = s4 (c .before .before) .args in c .before .loop .tally ≡ tally (a .key1) (seen (a .table .now) (a .session) (slots (a .table .now)))
+whole : (c : tie.After-loop Inv-loop μ-loop) → let a = s4 (opens (c .before)) .args in
+    c .before .loop .tally ≡ tally (a .key1) (seen (a .table .now) (a .session) (slots (a .table .now)))
 whole c =
     let l = c .before in
-    let s = s4 (l .before) in
-    let e : l .loop .k ≡ slots (s .args .table .now) = omega arith in
+    let s = s4 (opens l) in
+    let e : l .loop .k ≡ slots (s .args .table .now) = omega (arith, count l) in
     rw (plain _ (s .fits .key1), plain _ (s .fits .session), e) at (l .loop .inv .1)
 
 -- and each slot is well formed: those that were passed, and past the end the empty one
-formed : (c : tie.After-loop Inv-loop μ-loop) (j : ℕ) → let a = s4 (c .before .before) .args in wellFormed (slotAt (a .table .now) j) (a .versions) ≡ true
+formed : (c : tie.After-loop Inv-loop μ-loop) (j : ℕ) → let a = s4 (opens (c .before)) .args in wellFormed (slotAt (a .table .now) j) (a .versions) ≡ true
 formed c j =
     let l = c .before in
     by-test (ltb j (l .loop .k)) (λ y. not-no (l .loop .inv .2 j (ltb-true _ _ y)))
-    (λ n. rw (slotAt-past _ j (can (l .before) .table) (omega (arith, ltb-false j (l .loop .k) n))) (empty-formed _))
+    (λ n. rw (slotAt-past _ j (can (opens l) .table) (omega (arith, count l, ltb-false j (l .loop .k) n))) (empty-formed _))
 
-past6 : (c : tie.After-loop Inv-loop μ-loop) → Past 6 (s4 (c .before .before))
-past6 c = past4 (c .before .before) ∙ skip _ _ (all-formed _ _ (formed c))
+past6 : (c : tie.After-loop Inv-loop μ-loop) → Past 6 (s4 (opens (c .before)))
+past6 c = past4 (opens (c .before)) ∙ skip _ _ (all-formed _ _ (formed c))
 
 rolls : tie.Need-returns-3 Inv-loop μ-loop
 unfolding rollUpAnswer
@@ -126,6 +134,12 @@ rolls c =
 pub roll-up-spec : {M : Type 1} → statement M
 roll-up-spec =
     tie.close
-    (tie.spec Inv-loop μ-loop (λ c κs. search needs) is1-to-4 (λ c. (omega arith, refl, λ j h. absurd (omega arith)))
-    (λ c κs. can (c .before .before) .table) (λ c κs. can (c .before .before .before) .known) is6 small
-    (λ c. omega arith) (λ c. omega arith) again rolls)
+    (tie.spec Inv-loop μ-loop
+    (λ c κs. search needs) is1-to-4
+    (λ c κs. search needs)
+    (λ c. (omega arith, refl, λ j h. absurd (omega arith)))
+    (λ c κs. can (opens (c .before)) .table)
+    (λ c κs. can (opens (c .before .before)) .known) is6
+    small (λ c. omega arith) (λ c. omega arith)
+    again
+    rolls)

@@ -1,7 +1,6 @@
 -- `reads::show_formed` meets its contract: at a slot that is not well formed the one test of the list holds, and past it the
 -- answer is what Table 1 shows. Assumes nothing.
-use mathlib.Core.Path.{sym, ap, _∙_}
-use mathlib.Core.Bool.{not}
+use mathlib.Core.Path.{sym, _∙_}
 use native.Mathlib.Omega.{arith}
 use borrow.Author.Needs.{needs}
 use Rattle.laws.specs.Bits.{plain}
@@ -10,14 +9,14 @@ use Rattle.reads.specs.declared.Seen.the-variants.{Refused}
 use Rattle.reads.proofs.show_formed.Statement.{statement}
 use Rattle.reads.proofs.show_formed.Tie as tie
 
-shows : tie.Need-returns
+is6 : tie.Need-returns
+is6 c = unless-refused Refused _ (hit _ (sym (c .before .is-broken .ensures) ∙ c .if1 .taken)) (omega arith)
+
+shows : tie.Need-returns-2
 shows c =
     let p = c .before in
-    let h = sym (p .before .well-formed .ensures) ∙ p .if1 .taken in
-    unless-done Refused (skip _ _ (ap not h) ∙ done) (rw (plain _ (p .before .before .fits .session)) at (c .show .ensures))
-
-is6 : tie.Need-returns-2
-is6 c = unless-refused Refused _ (hit _ (ap not (sym (c .before .well-formed .ensures) ∙ c .if1 .left))) (omega arith)
+    let h = sym (p .before .is-broken .ensures) ∙ p .if1 .left in
+    unless-done Refused (skip _ _ h ∙ done) (rw (plain _ (p .before .before .fits .session)) at (c .show .ensures))
 
 pub show-formed-spec : {M : Type 1} → statement M
-show-formed-spec = tie.close (tie.spec (λ c κs. search needs) (λ c κs. search needs) shows is6)
+show-formed-spec = tie.close (tie.spec (λ c κs. search needs) is6 (λ c κs. search needs) shows)

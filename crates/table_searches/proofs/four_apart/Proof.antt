@@ -28,16 +28,19 @@ other t i key2 f g h = sym (eq-bits (word t i) key2 f g) ∙ not-yes h
 returns : tie.Need-returns
 unfolding all
 returns c h =
-    let s = c .before .before .before .before in
+    let third = c .before in
+    let second = third .before in
+    let first = second .before in
+    let s = first .before in
     let t = s .args .table .now in
     let k = s .args .k in
     let key2 = s .args .key2 in
     let g = s .fits .key2 in
-    let tests = differs t (k * 8 + 3) key2 ∷ differs t (k * 8 + 11) key2 ∷ differs t (k * 8 + 19) key2 ∷ differs t (k * 8 + 27) key2 ∷ [] in
+    let tests = differs t (k * 8 + 3) key2 ∷ differs t (k * 8 + 8 + 3) key2 ∷ differs t (k * 8 + 16 + 3) key2 ∷ differs t (k * 8 + 24 + 3) key2 ∷ [] in
     record {
-      first = rw (key2-at t k) (other t _ key2 (record { sfits = c .before .before .before .result .given }) g (all-at tests 0 h));
-      second = rw (key2-at t (k + 1), word-on t k 1 3) (other t _ key2 (record { sfits = c .before .before .result2 .given }) g (all-at tests 1 h));
-      third = rw (key2-at t (k + 2), word-on t k 2 3) (other t _ key2 (record { sfits = c .before .result3 .given }) g (all-at tests 2 h));
+      first = rw (key2-at t k) (other t _ key2 (record { sfits = first .result .given }) g (all-at tests 0 h));
+      second = rw (key2-at t (k + 1), word-on t k 1 3) (other t _ key2 (record { sfits = second .result2 .given }) g (all-at tests 1 h));
+      third = rw (key2-at t (k + 2), word-on t k 2 3) (other t _ key2 (record { sfits = third .result3 .given }) g (all-at tests 2 h));
       fourth = rw (key2-at t (k + 3), word-on t k 3 3) (other t _ key2 (record { sfits = c .result4 .given }) g (all-at tests 3 h));
     }
 
@@ -46,7 +49,7 @@ four-apart-spec =
     tie.close
     (tie.spec (λ c. search needs)
     (λ c. search needs) (λ c. search needs) (λ c. search needs)
-    (λ c. search needs) (λ c. search needs) (λ c. search needs)
-    (λ c. search needs) (λ c. search needs) (λ c. search needs)
-    (λ c. search needs) (λ c. search needs) (λ c. search needs)
+    (λ c. search needs) (λ c. search needs) (λ c. search needs) (λ c. search needs)
+    (λ c. search needs) (λ c. search needs) (λ c. search needs) (λ c. search needs) (λ c. search needs)
+    (λ c. search needs) (λ c. search needs) (λ c. search needs) (λ c. search needs) (λ c. search needs)
     returns)

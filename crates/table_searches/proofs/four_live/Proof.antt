@@ -25,18 +25,18 @@ lives t i f e h = sym (rw (plain (word t i) f) at e) ∙ h
 returns : tie.Need-returns
 unfolding all
 returns c h =
-    let c3 = c .before .before in
-    let c2 = c3 .before .before in
-    let c1 = c2 .before .before in
-    let s = c1 .before .before in
+    let third = c .before .before in
+    let second = third .before .before in
+    let first = second .before .before in
+    let s = first .before .before in
     let t = s .args .table .now in
     let k = s .args .k in
-    let tests = c1 .lives .result ∷ c2 .lives2 .result ∷ c3 .lives3 .result ∷ c .lives4 .result ∷ [] in
+    let tests = first .lives .result ∷ second .lives2 .result ∷ third .lives3 .result ∷ c .lives4 .result ∷ [] in
     record {
-      first = live-word _ ∙ rw (operation-at t k) (lives t (k * 8 + 1) (record { sfits = c1 .before .lives-arg .given }) (c1 .lives .ensures) (all-at tests 0 h));
-      second = live-word _ ∙ rw (operation-at t (k + 1), word-on t k 1 1) (lives t (k * 8 + 9) (record { sfits = c2 .before .lives-arg2 .given }) (c2 .lives2 .ensures) (all-at tests 1 h));
-      third = live-word _ ∙ rw (operation-at t (k + 2), word-on t k 2 1) (lives t (k * 8 + 17) (record { sfits = c3 .before .lives-arg3 .given }) (c3 .lives3 .ensures) (all-at tests 2 h));
-      fourth = live-word _ ∙ rw (operation-at t (k + 3), word-on t k 3 1) (lives t (k * 8 + 25) (record { sfits = c .before .lives-arg4 .given }) (c .lives4 .ensures) (all-at tests 3 h));
+      first = live-word _ ∙ rw (operation-at t k) (lives t (k * 8 + 1) (record { sfits = first .before .lives-arg .given }) (first .lives .ensures) (all-at tests 0 h));
+      second = live-word _ ∙ rw (operation-at t (k + 1), word-on t k 1 1) (lives t (k * 8 + 8 + 1) (record { sfits = second .before .lives-arg2 .given }) (second .lives2 .ensures) (all-at tests 1 h));
+      third = live-word _ ∙ rw (operation-at t (k + 2), word-on t k 2 1) (lives t (k * 8 + 16 + 1) (record { sfits = third .before .lives-arg3 .given }) (third .lives3 .ensures) (all-at tests 2 h));
+      fourth = live-word _ ∙ rw (operation-at t (k + 3), word-on t k 3 1) (lives t (k * 8 + 24 + 1) (record { sfits = c .before .lives-arg4 .given }) (c .lives4 .ensures) (all-at tests 3 h));
     }
 
 pub four-live-spec : {M : Type 1} → statement M
@@ -44,7 +44,7 @@ four-live-spec =
     tie.close
     (tie.spec (λ c. search needs)
     (λ c. search needs) (λ c. search needs) (λ c. search needs) (λ c κs. search needs)
-    (λ c. search needs) (λ c. search needs) (λ c. search needs) (λ c κs. search needs)
-    (λ c. search needs) (λ c. search needs) (λ c. search needs) (λ c κs. search needs)
-    (λ c. search needs) (λ c. search needs) (λ c. search needs) (λ c κs. search needs)
+    (λ c. search needs) (λ c. search needs) (λ c. search needs) (λ c. search needs) (λ c κs. search needs)
+    (λ c. search needs) (λ c. search needs) (λ c. search needs) (λ c. search needs) (λ c. search needs) (λ c κs. search needs)
+    (λ c. search needs) (λ c. search needs) (λ c. search needs) (λ c. search needs) (λ c. search needs) (λ c κs. search needs)
     returns)
