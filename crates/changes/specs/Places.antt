@@ -10,7 +10,7 @@ use borrow.Author.Tests.{ltb-true}
 use Rattle.laws.specs.TestLaws.{not-no}
 use Rattle.laws.specs.FirstLaws.{none}
 use Rattle.versions.specs.declared.VersionRecord.{VersionRecord}
-use Rattle.table.specs.Slots.{badTable, slots}
+use Rattle.table.specs.Slots.{mostSlots, badTable, slots}
 use Rattle.table.specs.SlotLaws.{lengths}
 use Rattle.table_searches.specs.KeyLaws.{live-placed}
 use Rattle.changes.specs.declared.Placed.{Placed}
@@ -19,7 +19,7 @@ use Rattle.changes.specs.Insert.{insertRefusal, insertAnswer}
 use Rattle.changes.specs.Update.{updateRefusal, updateAnswer}
 use Rattle.changes.specs.Delete.{deleteRefusal, deleteAnswer}
 use Rattle.changes.specs.ChangeOutcomes.{ChangeRefuses, ChangeAccepts, insert-refuses, insert-accepts, update-refuses, update-accepts, delete-refuses, delete-accepts}
-use Rattle.changes.specs.PlacedNumbers.{mostSlots, Numbers, slot, refusal}
+use Rattle.changes.specs.PlacedNumbers.{Numbers, slot, refusal}
 
 pub slot-low : {k : ℕ} → Numbers (InSlot k) → k < mostSlots
 slot-low (slot l) = l

@@ -6,7 +6,7 @@ use mathlib.Core.List.{List, [], _∷_}
 use Prim.Native.Nat.{ℕ, _≤_}
 use lib.IntN.{ℤ, pos}
 use lib.ListN.{getD}
-use Rattle.calls.specs.Terms.{eqZ}
+use Rattle.calls.specs.Terms.{eqZ, mostSlots}
 use Rattle.calls.specs.Calls.{Answer}
 use Rattle.calls.specs.Numbers.{numbers}
 use Rattle.history.specs.Followed.{Followed, freshStart, Heard, wentIn, beganRun, committedRun, loadedBlock, hear}
@@ -41,7 +41,7 @@ accepted a = eqZ (getD (numbers a) 0 (pos 0)) (pos 0)
 -- 1 to 1,024 slots
 pub record Size (m : ℕ) : Type 0 where
   pub some : 1 ≤ m
-  pub few : m ≤ 1024
+  pub few : m ≤ mostSlots
 
 -- ---- what is lent, and what was followed
 pub record World (K : Kind) : Type 0 where

@@ -11,7 +11,7 @@ use Rattle.laws.specs.Order.{eqZ}
 use Rattle.laws.specs.Sums.{sum-within, small-fits}
 use Rattle.versions.specs.declared.VersionRecord.{VersionRecord}
 use Rattle.table.specs.declared.Slot.{Slot}
-use Rattle.table.specs.Slots.{slotAt}
+use Rattle.table.specs.Slots.{mostSlots, slotAt}
 use Rattle.table.specs.TotalLaws.{lawful-within}
 use Rattle.table.specs.Totals.{Given, largestTotal}
 use Rattle.table.specs.Formed.{wellFormed}
@@ -26,7 +26,7 @@ use Rattle.reads.specs.RollUp.{Tally, counted, tallied, tally, seen}
 pub bounded-more : {k m : ℕ} {n : Tally} → k ≤ m → Bounded k n → Bounded m n
 bounded-more h b = record { count = omega arith; total1 = omega arith; total2 = omega arith }
 
-pub sums-fit : {n : Tally} → Bounded 1024 n → SumsFit n
+pub sums-fit : {n : Tally} → Bounded mostSlots n → SumsFit n
 sums-fit {n} b = record { total1 = small-fits (n .total1) (omega arith); total2 = small-fits (n .total2) (omega arith) }
 
 -- a row more

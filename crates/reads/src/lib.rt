@@ -3,9 +3,11 @@
 ghost use mathlib.Core.Path.{_≡_};
 ghost use mathlib.Core.Bool.{false};
 ghost use mathlib.Core.List.{[], _∷_};
+ghost use Prim.Native.Nat.{_-_};
 ghost use Rattle.refusals.specs.Refusals.{brokenSlot};
 ghost use Rattle.laws.specs.First.{first, unless};
 ghost use Rattle.versions.specs.Record.{badRecord};
+ghost use Rattle.table.specs.Slots.{mostSlots};
 ghost use Rattle.table.specs.Formed.{broken};
 ghost use Rattle.reads.specs.Table1.{shown};
 ghost use Rattle.reads.specs.RollUpBounds.{LawfulRow, Bounded};
@@ -161,7 +163,7 @@ pub fn read_key(table: &[i64], versions: VersionRecord, session: i64, key1: i64,
 // The tally with what a session sees of one slot more: a row with that first key word counts.
 fn tally_slot(tally: Tally, x: Slot, session: i64, key1: i64) -> Tally
     requires { ⌜ LawfulRow (shown session x) ⌝ }
-    requires { ⌜ Bounded 1023 tally ⌝ }
+    requires { ⌜ Bounded (mostSlots - 1) tally ⌝ }
     ensures { λ r. ⌜ r ≡ tallied key1 (shown session x) tally ⌝ }
 {
     let own = x.key1;

@@ -6,7 +6,7 @@ use mir.Syntax.{w64}
 use mir.ValLaws.{toZ-pos}
 use borrow.Author.Needs.{needs}
 use Rattle.changes.specs.Places.{slot-low}
-use Rattle.changes.specs.PlacedNumbers.{mostSlots}
+use Rattle.calls.specs.Terms.{mostSlots}
 use Rattle.probe.proofs.numbers.put_placed.Statement.{statement}
 use Rattle.probe.proofs.numbers.put_placed.Tie as tie
 
