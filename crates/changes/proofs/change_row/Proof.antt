@@ -1,5 +1,5 @@
--- `changes::change_row` meets its contract. `pastN` says that the test of refusal N has failed; a return is the tests before its
--- own, and its own. Assumes nothing.
+-- `changes::change_row`. `pastN` says that the test of refusal N has failed; a return is the tests before its own, and its
+-- own. Assumes nothing.
 use mathlib.Core.Path.{_≡_, ap, _∙_}
 use mathlib.Core.Bool.{false, not}
 use native.Mathlib.Omega.{arith}

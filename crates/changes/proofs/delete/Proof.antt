@@ -1,5 +1,5 @@
--- `changes::delete` meets its contract: its list of tests is those of `running_refusal`, then those of `change_row`. Assumes
--- nothing.
+-- `changes::delete`: its list of tests is those of `running_refusal`, then those of `change_row`, so it is what the first
+-- refuses and past them what the second leaves. Assumes nothing.
 use mathlib.Core.Path.{_≡_, sym, _∙_}
 use borrow.Author.Needs.{needs}
 use Rattle.laws.specs.FirstLaws.{pass, stop}

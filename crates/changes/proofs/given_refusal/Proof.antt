@@ -1,5 +1,5 @@
--- `changes::given_refusal` meets its contract. `past8` says that no earlier refusal is given; a return is that, and the last
--- test. Assumes nothing.
+-- `changes::given_refusal`. `past8` says that no earlier refusal is given; a return is that, and the last test. Assumes
+-- nothing.
 use mathlib.Core.Path.{_≡_, sym, _∙_}
 use borrow.Author.Needs.{needs}
 use Rattle.laws.specs.FirstLaws.{after, skip, hit, done, pass, stop}

@@ -1,4 +1,4 @@
--- `changes::place` meets its contract: it answers the place, and leaves what `put_slot` does. Assumes nothing.
+-- `changes::place`: it answers the place, and leaves what `put_slot` does. Assumes nothing.
 use mathlib.Core.Path.{refl}
 use borrow.Author.Needs.{needs}
 use Rattle.changes.proofs.place.Statement.{statement}

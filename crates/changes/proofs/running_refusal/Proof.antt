@@ -1,5 +1,5 @@
--- `changes::running_refusal` meets its contract. `pastN` says that the test of refusal N has failed; a return is the tests before
--- its own, and its own. Assumes nothing.
+-- `changes::running_refusal`. `pastN` says that the test of refusal N has failed; a return is the tests before its own, and
+-- its own. Assumes nothing.
 use mathlib.Core.Path.{_≡_, sym, _∙_}
 use mathlib.Core.Bool.{false}
 use borrow.Author.Needs.{needs}
@@ -10,10 +10,17 @@ use Rattle.changes.specs.ChangeTests.{runningRefusal}
 use Rattle.changes.proofs.running_refusal.Statement.{statement}
 use Rattle.changes.proofs.running_refusal.Tie as tie
 
-past1 : (c : tie.Else1) → badTable (c .before .before .args .table .now) ≡ false
+-- the start, from the place past the test of 1 and from that past the test of 2
+abbrev s1 : tie.Else1 → tie.Start
+s1 c = c .before .before
+
+abbrev s2 : tie.Else2 → tie.Start
+s2 c = s1 (c .before .before)
+
+past1 : (c : tie.Else1) → badTable (s1 c .args .table .now) ≡ false
 past1 c = sym (c .before .bad-table .ensures) ∙ c .if1 .left
 
-past2 : (c : tie.Else2) → badRecord (c .before .before .before .before .args .versions) ≡ false
+past2 : (c : tie.Else2) → badRecord (s2 c .args .versions) ≡ false
 past2 c = sym (c .before .bad-record .ensures) ∙ c .if2 .left
 
 is1 : tie.Need-returns

@@ -1,4 +1,4 @@
--- `changes::slot_to_take` meets its contract: the one test is the definition's. Assumes nothing.
+-- `changes::slot_to_take`: the one test is the definition's. Assumes nothing.
 use borrow.Author.Needs.{needs}
 use borrow.Author.Tests.{lt-ltb, le-ltb}
 use Rattle.changes.proofs.slot_to_take.Statement.{statement}

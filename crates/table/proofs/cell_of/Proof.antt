@@ -1,5 +1,5 @@
--- `table::cell_of` meets its contract: the number of a row is 0 where the test holds and 1 where it does not, so the index is the
--- definition's place, and in the table. Assumes nothing.
+-- `table::cell_of`: the number of a row is 0 where the test holds and 1 where it does not, so the index is the definition's
+-- place, and in the table. Assumes nothing.
 use mathlib.Core.Path.{_≡_, ap}
 use mathlib.Core.Bool.{Bool, true, false, not}
 use Prim.Native.Nat.{ℕ, _+_, _*_, _≤_}

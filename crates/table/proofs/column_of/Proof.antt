@@ -1,4 +1,5 @@
--- `table::column_of` meets its contract. Assumes nothing.
+-- `table::column_of`: a return knows which tests of the operation word failed and which held, and at those the definition
+-- computes. Assumes nothing.
 use lib.IntN.{pos}
 use mir.Syntax.{w64}
 use mir.Val.{SFits}

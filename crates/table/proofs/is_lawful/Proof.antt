@@ -1,4 +1,4 @@
--- `table::is_lawful` meets its contract. Assumes nothing.
+-- `table::is_lawful`: the total fits, so its bits are the number that the two comparisons are about. Assumes nothing.
 use Rattle.laws.specs.Tests.{all}
 use Rattle.laws.specs.Bits.{plain}
 use Rattle.table.specs.Totals.{lawful}

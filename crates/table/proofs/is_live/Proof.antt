@@ -1,4 +1,4 @@
--- `table::is_live` meets its contract. Assumes nothing.
+-- `table::is_live`: live goes by the operation word alone (`live-word`). Assumes nothing.
 use mathlib.Core.Path.{sym, _∙_}
 use mir.Syntax.{w64}
 use mir.Val.{SFits}

@@ -1,4 +1,4 @@
--- `table::is_unlawful` meets its contract. Assumes nothing.
+-- `table::is_unlawful`: what `is_lawful` answers of each total, by its contract. Assumes nothing.
 use borrow.Author.Needs.{needs}
 use Rattle.laws.specs.Bits.{plain}
 use Rattle.table.specs.Totals.{unlawful}

@@ -1,4 +1,5 @@
--- `table::lives` meets its contract. Assumes nothing.
+-- `table::lives`: the word and the two operations fit, so they are equal as bits exactly if they are as numbers. Assumes
+-- nothing.
 use lib.IntN.{pos}
 use borrow.Author.Needs.{needs}
 use Rattle.laws.specs.Bits.{eq-bits}

@@ -1,4 +1,5 @@
--- `table::slot_at` meets its contract. Assumes nothing.
+-- `table::slot_at`: a slot past the end is empty (`slotAt-past`); of any other each word is read at its place, and fits.
+-- Assumes nothing.
 use mathlib.Core.Path.{sym, _∙_}
 use Prim.Native.Nat.{_+_, _*_}
 use native.Mathlib.Nat.{add-zero}

@@ -1,4 +1,4 @@
--- `table::well_formed` meets its contract: its operation word says which of the two tests a slot can pass. Assumes nothing.
+-- `table::well_formed`: its operation word says which of the two tests a slot can pass. Assumes nothing.
 use mathlib.Core.Path.{sym, _∙_}
 use lib.IntN.{pos}
 use mir.Syntax.{w64}

@@ -1,5 +1,5 @@
--- `table_searches::four_apart` meets its contract: the four words that are read are the second key words of four slots, one after the
--- other. Assumes nothing.
+-- `table_searches::four_apart`: the four words that are read are the second key words of four slots, one after the other.
+-- Assumes nothing.
 use mathlib.Core.Path.{_≡_, sym, _∙_}
 use mathlib.Core.Bool.{Bool, true, false, not}
 use mathlib.Core.List.{List, [], _∷_}

@@ -1,5 +1,5 @@
--- `table_searches::four_live` meets its contract: the four words that are read are the operation words of four slots, one after the
--- other. Assumes nothing.
+-- `table_searches::four_live`: the four words that are read are the operation words of four slots, one after the other.
+-- Assumes nothing.
 use mathlib.Core.Path.{_≡_, sym, _∙_}
 use mathlib.Core.Bool.{Bool, true}
 use mathlib.Core.List.{List, [], _∷_}

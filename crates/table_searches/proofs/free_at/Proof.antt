@@ -1,4 +1,4 @@
--- `table_searches::free_at` meets its contract: a live slot is not free, and of any other the test is `is_free`. Assumes nothing.
+-- `table_searches::free_at`: a live slot is not free, and of any other the test is `is_free`. Assumes nothing.
 use mathlib.Core.Path.{sym, _∙_}
 use Prim.Native.Nat.{_+_, _*_}
 use mir.Syntax.{w64}

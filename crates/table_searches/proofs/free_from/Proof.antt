@@ -1,4 +1,5 @@
--- `table_searches::free_from` meets its contract: nothing below k is free. Assumes nothing.
+-- `table_searches::free_from`. The invariant: nothing below k is free. The measure is how many slots are left before the end.
+-- Assumes nothing.
 use Prim.Native.Nat.{_-_}
 use mathlib.Core.Path.{sym, _∙_}
 use native.Mathlib.Omega.{arith}

@@ -1,5 +1,4 @@
--- `table_searches::has_key` meets its contract: three words of the slot are read, each only where the test before it passed.
--- Assumes nothing.
+-- `table_searches::has_key`: three words of the slot are read, each only where the test before it passed. Assumes nothing.
 use mathlib.Core.Path.{_≡_, sym, ap, _∙_}
 use mathlib.Core.Bool.{not}
 use mathlib.Core.List.{List, [], _∷_}

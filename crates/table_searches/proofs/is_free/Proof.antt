@@ -1,4 +1,4 @@
--- `table_searches::is_free` meets its contract. Assumes nothing.
+-- `table_searches::is_free`: free is one of two tests, and the code asks both. Assumes nothing.
 use borrow.Author.Needs.{needs}
 use Rattle.table_searches.specs.Free.{free}
 use Rattle.table_searches.proofs.is_free.Statement.{statement}

@@ -1,4 +1,5 @@
--- `table_searches::key_from` meets its contract: nothing below k has the key. Assumes nothing.
+-- `table_searches::key_from`. The invariant: nothing below k has the key. The measure is how many slots are left before the
+-- end. Assumes nothing.
 use Prim.Native.Nat.{ℕ, _-_}
 use mathlib.Core.Path.{sym, _∙_}
 use mathlib.Core.List.{List}

@@ -1,4 +1,5 @@
--- `table_searches::key_slot`. The invariant: nothing below k has the key. The measure is how many slots are left. Assumes nothing.
+-- `table_searches::key_slot`. The invariant: nothing below k has the key. The measure is how many slots are left. Assumes
+-- nothing.
 use Prim.Native.Nat.{ℕ, _+_, _≤_, _-_}
 use mathlib.Core.Path.{_≡_}
 use mathlib.Core.List.{List}

@@ -1,4 +1,5 @@
--- `table_searches::long_deleted` meets its contract. Assumes nothing.
+-- `table_searches::long_deleted`: its three tests are the definition's; the words that they compare fit, so bits are numbers.
+-- Assumes nothing.
 use mir.Syntax.{w64}
 use mir.Val.{SFits}
 use borrow.Author.Needs.{needs}
