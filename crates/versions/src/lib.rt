@@ -129,7 +129,8 @@ pub fn begin_by_value(versions: VersionRecord) -> Turned
     }
 }
 
-// Commit, by value.
+// Commit, by value. Its two tests stand in locals so that must-fail/commit_without_a_run.edit can ask the first again in place of
+// the second, at the same places of the proof.
 pub fn commit_by_value(versions: VersionRecord) -> Turned
     ensures { λ r. ⌜ CommitContract versions r ⌝ }
 {

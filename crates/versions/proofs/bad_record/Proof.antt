@@ -1,4 +1,5 @@
--- `versions::bad_record` meets its contract: the code's one expression is the definition's list of tests. Assumes nothing.
+-- `versions::bad_record`: the code's one expression is the definition's list of tests, once current is read as the number that
+-- it is (`plain`, `eq-bits`). Assumes nothing.
 use mir.Syntax.{w64}
 use mir.Val.{SFits}
 use borrow.Author.Needs.{needs}

@@ -1,4 +1,4 @@
--- `versions::begin` meets its contract: on a lent record it does what `begin_by_value` does by value. Assumes nothing.
+-- `versions::begin`: on a lent record it does what `begin_by_value` does by value, by the walk of `Lent`. Assumes nothing.
 use mathlib.Core.Path.{refl}
 use Rattle.versions.specs.Runs.{BeginContract}
 use Rattle.versions.proofs.Lent.{lent-meets}

@@ -1,4 +1,4 @@
--- `versions::commit` meets its contract: on a lent record it does what `commit_by_value` does by value. Assumes nothing.
+-- `versions::commit`: on a lent record it does what `commit_by_value` does by value, by the walk of `Lent`. Assumes nothing.
 use mathlib.Core.Path.{refl}
 use Rattle.versions.specs.Runs.{CommitContract}
 use Rattle.versions.proofs.Lent.{lent-meets}

@@ -1,4 +1,5 @@
--- `versions::is_expired` meets its contract; current − 1 fits since a sound record's current is at least 1. Assumes nothing.
+-- `versions::is_expired`: the code's one expression is the definition's list of tests; current − 1 fits since a sound record's
+-- current is at least 1 (`previous-fits`). Assumes nothing.
 use lib.IntN.{pos, _-ℤ_}
 use mir.Syntax.{w64}
 use mir.Val.{SFits}

@@ -1,4 +1,4 @@
--- `versions::last_run` meets its contract. Assumes nothing.
+-- `versions::last_run`: by the test, `run_number`'s answer in a run and current out of one. Assumes nothing.
 use mathlib.Core.Path.{_∙_}
 use mir.Syntax.{w64}
 use mir.Val.{SFits}
@@ -7,13 +7,14 @@ use Rattle.laws.specs.Bits.{plain}
 use Rattle.versions.proofs.last_run.Statement.{statement}
 use Rattle.versions.proofs.last_run.Tie as tie
 
-returns : tie.Need-returns
-returns c = simp (c .before .if1 .taken) (plain _ (record { sfits = c .run-number .ok }) ∙ c .run-number .ensures)
+active : tie.Need-returns
+active c = simp (c .before .if1 .taken) (plain _ (record { sfits = c .run-number .ok }) ∙ c .run-number .ensures)
 
-returns-2 : tie.Need-returns-2
-returns-2 c =
-    let f : SFits w64 (c .before .before .args .versions .current) = search needs in
-    simp (c .before .if1 .left, plain _ f)
+idle : tie.Need-returns-2
+idle c =
+    let start = c .before .before in
+    let current : SFits w64 (start .args .versions .current) = search needs in
+    simp (c .before .if1 .left, plain _ current)
 
 pub last-run-spec : {M : Type 1} → statement M
-last-run-spec = tie.close (tie.spec (λ c κs. search needs) returns returns-2)
+last-run-spec = tie.close (tie.spec (λ c κs. search needs) active idle)

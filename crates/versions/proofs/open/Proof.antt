@@ -1,4 +1,4 @@
--- `versions::open` meets its contract: past the one test, current is answered. Assumes nothing.
+-- `versions::open`: `bad_record` asks the one test of the definition's list, and past it the answer is current. Assumes nothing.
 use mathlib.Core.Path.{sym, ap, _∙_}
 use native.Mathlib.Omega.{arith}
 use mir.Syntax.{w64}
@@ -18,9 +18,10 @@ is2 c = record { answer = unless-refused Refused _ (hit _ (sym (c .before .bad-r
 opens : tie.Need-returns-2
 unfolding openRefusal openAnswer
 opens c =
-    let b = c .before .before in
-    let current : SFits w64 (b .before .args .versions .current) = search needs in
-    record { answer = unless-done Refused (skip _ _ (sym (b .bad-record .ensures) ∙ c .before .if1 .left) ∙ done) (ap Version (plain _ current)) }
+    let sound = c .before in
+    let asked = sound .before in
+    let current : SFits w64 (asked .before .args .versions .current) = search needs in
+    record { answer = unless-done Refused (skip _ _ (sym (asked .bad-record .ensures) ∙ sound .if1 .left) ∙ done) (ap Version (plain _ current)) }
 
 pub open-spec : {M : Type 1} → statement M
 open-spec = tie.close (tie.spec (λ c κs. search needs) is2 opens)
