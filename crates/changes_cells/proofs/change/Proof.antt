@@ -1,35 +1,34 @@
--- `changes_cells::change` meets its contract: the cell that was looked up is the definition's, and what is written is what the cell
--- leaves of the words that were given. Assumes nothing.
-use mathlib.Core.Path.{_≡_, _∙_}
-use Prim.Native.Nat.{ℕ}
-use lib.IntN.{ℤ}
+-- `changes_cells::change`: the cell looked up is the definition's, by what `run_number`, `column_of` and `cell_of` ensure, and
+-- `write_cell` leaves of the slot what that cell says. Assumes nothing.
+use mathlib.Core.Path.{_∙_}
 use mir.Syntax.{w64}
 use mir.Val.{SFits}
 use borrow.Author.Needs.{needs}
 use Rattle.laws.specs.Bits.{plain}
-use Rattle.table.specs.declared.Slot.{Slot}
 use Rattle.table.specs.OperationLaws.{column-below}
 use Rattle.changes_cells.specs.Tables.{written, changed}
 use Rattle.changes_cells.proofs.change.Statement.{statement}
 use Rattle.changes_cells.proofs.change.Tie as tie
 
-written-same : (x : Slot) {cell cell′ : ℕ} {m m′ key1 one′ key2 two′ total1 a′ total2 b′ : ℤ}
-    → cell ≡ cell′ → m ≡ m′ → key1 ≡ one′ → key2 ≡ two′ → total1 ≡ a′ → total2 ≡ b′ → written cell m x key1 key2 total1 total2 ≡ written cell′ m′ x one′ two′ a′ b′
-written-same x c m key1 key2 total1 total2 i = written (c i) (m i) x (key1 i) (key2 i) (total1 i) (total2 i)
-
 returns : tie.Need-returns
 unfolding changed
 returns c =
-    let k = c .before .before in
-    let m = k .before .before .before .run-number in
-    let s = k .before .before .before .before in
-    let f = s .fits in
-    let run : SFits w64 (s .args .x .run) = search needs in
-    let running = plain (m .result) (record { sfits = m .ok }) ∙ m .ensures in
-    let cell = rw (plain _ run, running, k .column-of .ensures) at (c .before .cell-of .ensures) in
-    c .write-cell .ensures ∙ written-same _ cell running (plain _ (f .key1)) (plain _ (f .key2)) (plain _ (f .total1)) (plain _ (f .total2))
+    let looked-up = c .before in
+    let column = looked-up .before in
+    let asked = column .before .before .before in
+    let start = asked .before in
+    let slot-run : SFits w64 (start .args .x .run) = search needs in
+    let run = plain (asked .run-number .result) (record { sfits = asked .run-number .ok }) ∙ asked .run-number .ensures in
+    let cell = rw (plain _ slot-run, run, column .column-of .ensures) at (looked-up .cell-of .ensures) in
+    let key1 = plain _ (start .fits .key1) in
+    let key2 = plain _ (start .fits .key2) in
+    let total1 = plain _ (start .fits .total1) in
+    let total2 = plain _ (start .fits .total2) in
+    rw (c .write-cell .ensures) (λ i. written (cell i) (run i) (start .args .x) (key1 i) (key2 i) (total1 i) (total2 i))
 
 pub change-spec : {M : Type 1} → statement M
 change-spec =
     tie.close
-    (tie.spec (λ c κs. search needs) (λ c κs. search needs) (λ c κs. rw (c .column-of .ensures) (column-below _)) (λ c κs. search needs) returns)
+    (tie.spec (λ c κs. search needs)
+    (λ c κs. search needs) (λ c κs. rw (c .column-of .ensures) (column-below _))
+    (λ c κs. search needs) returns)

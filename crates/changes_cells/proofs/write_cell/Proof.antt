@@ -1,5 +1,5 @@
--- `changes_cells::write_cell` meets its contract: an arm is the definition at its cell, by what the arm's function ensures; at any other
--- cell, which is impossible or past the end of the definition's list, the slot stays. Assumes nothing.
+-- `changes_cells::write_cell`: an arm is the definition at its cell, by what the arm's function ensures; any other cell is
+-- impossible or past the definition's list (`past-all`), and there the slot stays. Assumes nothing.
 use mathlib.Core.Path.{_≡_}
 use Prim.Native.Nat.{ℕ, _+_, _-_, _≤_, zero-le}
 use native.Mathlib.Numerals.{add-eight}
@@ -17,26 +17,32 @@ use Rattle.changes_cells.proofs.write_cell.Tie as tie
 
 inserts : tie.Need-returns
 inserts c =
-    let f = c .before .before .fits in
-    simp (c .before .match .keys1, c .new-insert .ensures, plain _ (f .run), plain _ (f .key1), plain _ (f .key2), plain _ (f .total1), plain _ (f .total2))
+    let words = c .before .before .fits in
+    simp (c .before .match .keys1, c .new-insert .ensures, plain _ (words .run), plain _ (words .key1), plain _ (words .key2), plain _ (words .total1), plain _ (words .total2))
 
 restores : tie.Need-returns-2
 restores c =
-    let f = c .before .before .fits in
-    simp (c .before .match .keys2, c .restore .ensures, plain _ (f .total1), plain _ (f .total2))
+    let words = c .before .before .fits in
+    simp (c .before .match .keys2, c .restore .ensures, plain _ (words .total1), plain _ (words .total2))
 
 saves : tie.Need-returns-3
 saves c =
-    let f = c .before .before .fits in
-    simp (c .before .match .keys3, c .save .ensures, plain _ (f .run), plain _ (f .total1), plain _ (f .total2))
+    let words = c .before .before .fits in
+    simp (c .before .match .keys3, c .save .ensures, plain _ (words .run), plain _ (words .total1), plain _ (words .total2))
 
 corrects : tie.Need-returns-4
 corrects c =
-    let f = c .before .before .fits in
-    simp (c .before .match .keys4, c .correct .ensures, plain _ (f .total1), plain _ (f .total2))
+    let words = c .before .before .fits in
+    simp (c .before .match .keys4, c .correct .ensures, plain _ (words .total1), plain _ (words .total2))
 
 removes : tie.Need-returns-5
 removes c = simp (c .before .match .keys5, c .remove .ensures, plain _ (c .before .before .fits .run))
+
+erases : tie.Need-returns-6
+erases c = rw (c .before .match .keys6) (c .empty-slot .ensures)
+
+marks : tie.Need-returns-7
+marks c = rw (c .before .match .keys7) (c .mark .ensures)
 
 -- a number that is none of the next four is past them
 past-four : (k : ℕ) {n : ℕ} → k ≤ n → (n ≡ k → ⊥) → (n ≡ k + 1 → ⊥) → (n ≡ k + 2 → ⊥) → (n ≡ k + 3 → ⊥) → k + 4 ≤ n
@@ -60,6 +66,4 @@ write-cell-spec =
     tie.close
     (tie.spec (λ c κs. search needs) (λ c κs. search needs) (λ c κs. search needs) (λ c κs. search needs)
     (λ c κs. search needs) (λ c κs. search needs) (λ c κs. search needs)
-    inserts restores saves corrects removes
-    (λ c. rw (c .before .match .keys6) (c .empty-slot .ensures)) (λ c. rw (c .before .match .keys7) (c .mark .ensures))
-    stays)
+    inserts restores saves corrects removes erases marks stays)
