@@ -1,5 +1,5 @@
--- `reads::read_key` meets its contract. `past4` says which tests are left once the first four have failed, and the answer is
--- then `show_formed`'s of the key's slot. Assumes nothing.
+-- `reads::read_key`: past the session's four tests (`past4`) the answer is `show_formed`'s of the slot that the search found; an
+-- absent key's slot is the empty one, which is well formed and shows no row. Assumes nothing.
 use mathlib.Core.Path.{_≡_, sym, ap, _∙_}
 use mathlib.Core.Bool.{not}
 use borrow.Author.Needs.{needs}
@@ -19,32 +19,32 @@ use Rattle.reads.proofs.read_key.Statement.{statement}
 use Rattle.reads.proofs.read_key.Tie as tie
 
 -- the place past refusal 4, and the start from it
-abbrev P4 : Type 0
-P4 = tie.Else1
+abbrev Allowed : Type 0
+Allowed = tie.Else1
 
-abbrev s4 : P4 → tie.Start
-s4 c = c .before .before
+abbrev start : Allowed → tie.Start
+start c = c .before .before
 
 -- the first four tests, asked at once
 asked : (c : tie.After-session-refusal) → let a = c .before .args in sessionRefusal (a .table .now) (a .versions) (a .session) ≡ c .session-refusal .result
 asked c = sym (rw (plain _ (c .before .fits .session)) at (c .session-refusal .ensures))
 
-can : (c : P4) → let a = s4 c .args in Open (a .table .now) (a .versions) (a .session)
+can : (c : Allowed) → let a = start c .args in Open (a .table .now) (a .versions) (a .session)
 can c = opened _ _ _ (asked (c .before) ∙ c .if1 .left)
 
-past4 : (c : P4) → let a = s4 c .args in
+past4 : (c : Allowed) → let a = start c .args in
     readKeyRefusal (a .table .now) (a .versions) (a .session) (a .key1) (a .key2)
     ≡ first (after 4 (readKeyTests (a .table .now) (a .versions) (a .session) (a .key1) (a .key2)))
 unfolding readKeyRefusal sessionRefusal
 past4 c = pass (sessionTests _ _ _) _ tt (asked (c .before) ∙ c .if1 .left)
 
 -- the search found the key's slot
-found : (c : tie.After-key-slot) → let a = s4 (c .before) .args in c .key-slot .result ≡ keySlot (a .table .now) (a .key1) (a .key2)
-found c = let f = s4 (c .before) .fits in rw (plain _ (f .key1), plain _ (f .key2)) at (c .key-slot .ensures)
+found : (c : tie.After-key-slot) → let a = start (c .before) .args in c .key-slot .result ≡ keySlot (a .table .now) (a .key1) (a .key2)
+found c = let f = start (c .before) .fits in rw (plain _ (f .key1), plain _ (f .key2)) at (c .key-slot .ensures)
 
--- past 4, from the place where it was found
-abbrev s-found : tie.Else2 → P4
-s-found c = c .before .before .before
+-- the place past the session's tests, from that where the key has a slot
+abbrev searched : tie.Else2 → Allowed
+searched c = c .before .before .before
 
 is1-to-4 : tie.Need-returns
 unfolding readKeyRefusal readKeyAnswer sessionRefusal
@@ -55,20 +55,20 @@ absent : tie.Need-returns-2
 unfolding readKeyAnswer
 absent c =
     let counted = c .before in
-    let k = counted .before in
-    let p = k .before in
-    let a = s4 p .args in
-    let past = rw (counted .slots-of .ensures, found k) at (c .if2 .taken) in
-    let e : keyed (a .table .now) (a .key1) (a .key2) ≡ empty = slotAt-past _ _ (can p .table) past in
-    record { answer = unless-done Refused (past4 p ∙ skip _ _ (rw e (ap not (empty-formed _))) ∙ done) (rw e (sym (shown-empty _))) }
+    let searched = counted .before in
+    let allowed = searched .before in
+    let a = start allowed .args in
+    let past = rw (counted .slots-of .ensures, found searched) at (c .if2 .taken) in
+    let e : keyed (a .table .now) (a .key1) (a .key2) ≡ empty = slotAt-past _ _ (can allowed .table) past in
+    record { answer = unless-done Refused (past4 allowed ∙ skip _ _ (rw e (ap not (empty-formed _))) ∙ done) (rw e (sym (shown-empty _))) }
 
 shows : tie.Need-returns-3
 unfolding readKeyAnswer
 shows c =
-    let x = c .before in
-    let k = x .before .before .before in
-    let p = k .before in
-    record { answer = rw (past4 p) (rw (plain _ (s4 p .fits .session), x .slot-at .ensures, found k) at (c .show-formed .ensures)) }
+    let taken = c .before in
+    let searched = taken .before .before .before in
+    let allowed = searched .before in
+    record { answer = rw (past4 allowed) (rw (plain _ (start allowed .fits .session), taken .slot-at .ensures, found searched) at (c .show-formed .ensures)) }
 
 pub read-key-spec : {M : Type 1} → statement M
 read-key-spec =
@@ -76,4 +76,4 @@ read-key-spec =
     (tie.spec (λ c κs. search needs) is1-to-4
     (λ c κs. can c .table)
     (λ c κs. search needs) absent
-    (λ c κs. can (s-found c) .table) (λ c κs. can (s-found (c .before)) .known) shows)
+    (λ c κs. can (searched c) .table) (λ c κs. can (searched (c .before)) .known) shows)

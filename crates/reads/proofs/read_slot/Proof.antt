@@ -1,5 +1,5 @@
--- `reads::read_slot` meets its contract. `pastN` says which tests are left once that of refusal N has failed; a refusal is the
--- last of these and the test that holds, and past 5 the answer is `show_formed`'s. Assumes nothing.
+-- `reads::read_slot`: the tests follow the definition's list, past the session's four (`past4`) and the slot's number (`past5`);
+-- past 5 the answer is `show_formed`'s of the slot. Assumes nothing.
 use mathlib.Core.Path.{_≡_, sym, ap, _∙_}
 use mathlib.Core.Bool.{not}
 use Prim.Native.Nat.{ℕ}
@@ -16,18 +16,12 @@ use Rattle.reads.specs.ReadSlot.{readSlotTests, readSlotRefusal, readSlo
 use Rattle.reads.proofs.read_slot.Statement.{statement}
 use Rattle.reads.proofs.read_slot.Tie as tie
 
--- the places past each test, by the refusal's number, and the start from each
-abbrev P4 : Type 0
-P4 = tie.Else1
+-- the place past the session's four tests, and the start from it
+abbrev Allowed : Type 0
+Allowed = tie.Else1
 
-abbrev P5 : Type 0
-P5 = tie.Else2
-
-abbrev s4 : P4 → tie.Start
-s4 c = c .before .before
-
-abbrev s5 : P5 → tie.Start
-s5 c = s4 (c .before .before)
+abbrev start : Allowed → tie.Start
+start c = c .before .before
 
 -- the refusal is that of the tests after number n
 abbrev Past : ℕ → tie.Start → Type 0
@@ -40,14 +34,14 @@ Past n s =
 asked : (c : tie.After-session-refusal) → let a = c .before .args in sessionRefusal (a .table .now) (a .versions) (a .session) ≡ c .session-refusal .result
 asked c = sym (rw (plain _ (c .before .fits .session)) at (c .session-refusal .ensures))
 
-can : (c : P4) → let a = s4 c .args in Open (a .table .now) (a .versions) (a .session)
+can : (c : Allowed) → let a = start c .args in Open (a .table .now) (a .versions) (a .session)
 can c = opened _ _ _ (asked (c .before) ∙ c .if1 .left)
 
-past4 : (c : P4) → Past 4 (s4 c)
+past4 : (c : Allowed) → Past 4 (start c)
 unfolding readSlotRefusal sessionRefusal
 past4 c = pass (sessionTests _ _ _) _ tt (asked (c .before) ∙ c .if1 .left)
 
-past5 : (c : P5) → Past 5 (s5 c)
+past5 : (c : tie.Else2) → Past 5 (start (c .before .before))
 past5 c = past4 (c .before .before) ∙ skip _ _ (ap not (lt-ltb _ _ (rw (c .before .slots-of .ensures) at (c .if2 .left))))
 
 is1-to-4 : tie.Need-returns
@@ -61,9 +55,9 @@ is5 c = record { answer = unless-refused Refused _ (past4 (c .before .before) �
 shows : tie.Need-returns-3
 unfolding readSlotAnswer
 shows c =
-    let x = c .before in
-    let p = x .before in
-    record { answer = rw (past5 p) (rw (plain _ (s5 p .fits .session), x .slot-at .ensures) at (c .show-formed .ensures)) }
+    let taken = c .before in
+    let in-table = taken .before in
+    record { answer = rw (past5 in-table) (rw (plain _ (start (in-table .before .before) .fits .session), taken .slot-at .ensures) at (c .show-formed .ensures)) }
 
 pub read-slot-spec : {M : Type 1} → statement M
 read-slot-spec =

@@ -1,6 +1,5 @@
--- `reads::roll_up` meets its contract. The invariant: the tally is that of the first k slots, and each of them is well formed,
--- so that the tally is within its bounds (`tally-bounded`). `pastN` says which tests are left once that of refusal N has
--- failed. Assumes nothing.
+-- `reads::roll_up`: the invariant is that the tally is that of the first k slots, each well formed, which bounds it
+-- (`tally-bounded`); the measure is the slots left, and past the last the tally is that of all. Assumes nothing.
 use Prim.Native.Nat.{ℕ, _≤_, _<_, _-_}
 use mathlib.Core.Path.{_≡_, refl, sym, ap, _∙_}
 use mathlib.Core.Bool.{true, false, not}

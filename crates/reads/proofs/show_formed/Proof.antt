@@ -1,5 +1,5 @@
--- `reads::show_formed` meets its contract: at a slot that is not well formed the one test of the list holds, and past it the
--- answer is what Table 1 shows. Assumes nothing.
+-- `reads::show_formed`: the one test of the definition's list holds at a slot that is broken, and past it the answer is what
+-- `show` sees. Assumes nothing.
 use mathlib.Core.Path.{sym, _∙_}
 use native.Mathlib.Omega.{arith}
 use borrow.Author.Needs.{needs}
@@ -14,9 +14,10 @@ is6 c = unless-refused Refused _ (hit _ (sym (c .before .is-broken .ensures) ∙
 
 shows : tie.Need-returns-2
 shows c =
-    let p = c .before in
-    let h = sym (p .before .is-broken .ensures) ∙ p .if1 .left in
-    unless-done Refused (skip _ _ h ∙ done) (rw (plain _ (p .before .before .fits .session)) at (c .show .ensures))
+    let formed = c .before in
+    let tested = formed .before in
+    let h = sym (tested .is-broken .ensures) ∙ formed .if1 .left in
+    unless-done Refused (skip _ _ h ∙ done) (rw (plain _ (tested .before .fits .session)) at (c .show .ensures))
 
 pub show-formed-spec : {M : Type 1} → statement M
 show-formed-spec = tie.close (tie.spec (λ c κs. search needs) is6 (λ c κs. search needs) shows)

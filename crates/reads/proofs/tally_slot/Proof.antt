@@ -1,6 +1,5 @@
--- `reads::tally_slot` meets its contract: a slot with another first key word never counts (`tallied-other`); of one with that
--- key word each arm is given which constructor the slot shows, at which `tallied` computes. The sums fit since a row that is
--- shown has lawful totals and the tally is one of fewer than 1,024 rows. Assumes nothing.
+-- `reads::tally_slot`: a slot of another key never counts (`tallied-other`), and at one of this key `tallied` computes in each
+-- arm; the sums fit, as a shown row's totals are lawful and the tally is of fewer than 1,024 rows. Assumes nothing.
 use mathlib.Core.Path.{_≡_, sym, ap, _∙_}
 use mathlib.Core.Bool.{true}
 use native.Mathlib.Numerals.{add-one}
