@@ -1,4 +1,5 @@
--- `probe::probe_commit` meets its contract: it hands on to the call, and to the numbers of its answer. Assumes nothing.
+-- `probe::probe_commit`: the call does by value what commit does of the record that the words stand for; the words are then
+-- those of the record left, and the numbers those of its answer. Assumes nothing.
 use borrow.Author.Needs.{needs}
 use Rattle.probe.specs.Probed.{outAfter, recordAfter}
 use Rattle.probe.proofs.probe_commit.Statement.{statement}
@@ -7,10 +8,10 @@ use Rattle.probe.proofs.probe_commit.Tie as tie
 returns : tie.Need-returns
 unfolding outAfter recordAfter
 returns c =
-    let k = c .before .before in
-    let b = k .before .before in
-    let v = b .before .version-of .ensures in
-    (rw (c .put-numbered .ensures, b .commit-by-value .ensures .answer, v), rw (k .keep-record .ensures, b .commit-by-value .ensures .versions, v))
+    let kept = c .before .before in
+    let turned = kept .before .before in
+    let version = turned .before .version-of .ensures in
+    (rw (c .put-numbered .ensures, turned .commit-by-value .ensures .answer, version), rw (kept .keep-record .ensures, turned .commit-by-value .ensures .versions, version))
 
 pub probe-commit-spec : {M : Type 1} → statement M
 probe-commit-spec = tie.close (tie.spec (λ c κs. search needs) (λ c κs. search needs) (λ c κs. search needs) (λ c κs. search needs) returns)

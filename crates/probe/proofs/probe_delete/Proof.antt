@@ -1,4 +1,5 @@
--- `probe::probe_delete` meets its contract: it hands on to the call, and to the numbers of its answer; the number of the slot is below 1,024. Assumes nothing.
+-- `probe::probe_delete`: the table and the answer's numbers are those of the call; the number of a slot is below 1,024, as
+-- `put_placed` asks (`delete-numbers`). Assumes nothing.
 use borrow.Author.Needs.{needs}
 use Rattle.changes.specs.Places.{delete-numbers}
 use Rattle.probe.specs.Probed.{outAfter, tableAfter}
@@ -11,9 +12,9 @@ numbers c κs = rw (c .before .delete .ensures .answer) (delete-numbers _ _ _ _)
 returns : tie.Need-returns
 unfolding outAfter tableAfter
 returns c =
-    let r = c .before .before in
-    let v = r .before .version-of .ensures in
-    (search (needs, c .put-placed .ensures, r .delete .ensures .answer, v), search (needs, r .delete .ensures .words, v))
+    let deleted = c .before .before in
+    let version = deleted .before .version-of .ensures in
+    (search (needs, c .put-placed .ensures, deleted .delete .ensures .answer, version), search (needs, deleted .delete .ensures .words, version))
 
 pub probe-delete-spec : {M : Type 1} → statement M
 probe-delete-spec = tie.close (tie.spec (λ c κs. search needs) (λ c κs. search needs) numbers (λ c. search needs) returns)

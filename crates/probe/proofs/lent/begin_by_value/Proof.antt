@@ -1,4 +1,4 @@
--- `probe::lent::begin_by_value` does by value what `begin` does on a lent record, by the walk of `Lending`. Assumes nothing.
+-- `probe::lent::begin_by_value`: by value it does what `begin` does on a lent record, by the walk of `Lending`. Assumes nothing.
 use mathlib.Core.Path.{refl}
 use Rattle.versions.specs.Runs.{BeginContract}
 use Rattle.versions.proofs.begin.Met.{met}

@@ -1,4 +1,5 @@
--- `probe::lent::commit_by_value` does by value what `commit` does on a lent record, by the walk of `Lending`. Assumes nothing.
+-- `probe::lent::commit_by_value`: by value it does what `commit` does on a lent record, by the walk of `Lending`.
+-- Assumes nothing.
 use mathlib.Core.Path.{refl}
 use Rattle.versions.specs.Runs.{CommitContract}
 use Rattle.versions.proofs.commit.Met.{met}

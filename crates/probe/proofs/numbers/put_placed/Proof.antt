@@ -1,5 +1,5 @@
--- `probe::numbers::put_placed` meets its contract, an arm for each constructor: the number of a slot is below 1,024, and so the same
--- with a sign. Assumes nothing.
+-- `probe::numbers::put_placed`: an arm is `ofPlaced` at its constructor; the number of a slot is below 1,024 (`low`), so the
+-- same with a sign (`toZ-pos`). Assumes nothing.
 use Prim.Native.Nat.{_<_}
 use native.Mathlib.Omega.{arith}
 use mir.Syntax.{w64}
@@ -11,18 +11,22 @@ use Rattle.probe.proofs.numbers.put_placed.Statement.{statement}
 use Rattle.probe.proofs.numbers.put_placed.Tie as tie
 
 low : (c : tie.After-known-told) → c .before .answer .given .0 .0 < mostSlots
-low c = slot-low (rw (c .before .answer .given .1) at (c .before .before .before .pre))
+low c =
+    let arm = c .before in
+    let start = arm .before .before in
+    slot-low (rw (arm .answer .given .1) at (start .pre))
 
 cast : tie.Need-cast-t5
 cast c = let l = low c in omega arith
 
-slot : tie.Need-returns
-slot c =
-    let g = c .before .before .answer .given in
-    rw (g .1, toZ-pos w64 (g .0 .0) (let l = low (c .before) in omega arith))
+in-slot : tie.Need-returns
+in-slot c =
+    let known = c .before in
+    let arm = known .before .answer .given in
+    rw (arm .1, toZ-pos w64 (arm .0 .0) (let l = low known in omega arith))
 
 refused : tie.Need-returns-2
-refused c = rw (c .before .before .before .answer2 .given .1) (c .put-refusal .ensures)
+refused c = let arm = c .before .before .before in rw (arm .answer2 .given .1) (c .put-refusal .ensures)
 
 pub put-placed-spec : {M : Type 1} → statement M
-put-placed-spec = tie.close (tie.spec (λ c. search needs) cast (λ c. search needs) (λ c κs. search needs) slot refused)
+put-placed-spec = tie.close (tie.spec (λ c. search needs) cast (λ c. search needs) (λ c κs. search needs) in-slot refused)

@@ -1,4 +1,4 @@
--- `probe::numbers::put_refusal` meets its contract: a number below 2^32 is the same at 64 bits. Assumes nothing.
+-- `probe::numbers::put_refusal`: a number below 2^32 is the same at 64 bits (`toZ-pos`). Assumes nothing.
 use native.Mathlib.Omega.{arith}
 use mir.Syntax.{w64}
 use mir.ValLaws.{toZ-pos}

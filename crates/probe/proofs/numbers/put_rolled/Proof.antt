@@ -1,4 +1,5 @@
--- `probe::numbers::put_rolled` meets its contract, an arm for each constructor. Assumes nothing.
+-- `probe::numbers::put_rolled`: an arm is `ofRolled` at its constructor; the count of rows is below 2^32, so the same with a
+-- sign (`toZ-pos`). Assumes nothing.
 use native.Mathlib.Omega.{arith}
 use mir.Syntax.{w64}
 use mir.ValLaws.{toZ-pos}
@@ -8,9 +9,13 @@ use Rattle.probe.proofs.numbers.put_rolled.Tie as tie
 
 sums : tie.Need-returns
 sums c =
-    let g = c .before .before .answer .given in
-    let count = c .before .known-told .given .0 .1 in
-    rw (toZ-pos w64 (g .0 .0) (omega arith)) (search (needs, g .1))
+    let known = c .before in
+    let arm = known .before .answer .given in
+    let count = known .known-told .given .0 .1 in
+    rw (toZ-pos w64 (arm .0 .0) (omega arith)) (search (needs, arm .1))
+
+refused : tie.Need-returns-2
+refused c = let arm = c .before .before .before in search (arm .answer2 .given .1, c .put-refusal .ensures)
 
 pub put-rolled-spec : {M : Type 1} → statement M
-put-rolled-spec = tie.close (tie.spec (λ c. search needs) (λ c. search needs) (λ c. search needs) (λ c κs. search needs) sums (λ c. search (c .before .before .before .answer2 .given .1, c .put-refusal .ensures)))
+put-rolled-spec = tie.close (tie.spec (λ c. search needs) (λ c. search needs) (λ c. search needs) (λ c κs. search needs) sums refused)

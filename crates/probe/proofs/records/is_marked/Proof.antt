@@ -1,4 +1,4 @@
--- `probe::records::is_marked` meets its contract. Assumes nothing.
+-- `probe::records::is_marked`: the code's == on words is the definition's on numbers (`eq-bits`). Assumes nothing.
 use lib.IntN.{pos}
 use lib.ListN.{getD}
 use mir.Syntax.{w64}

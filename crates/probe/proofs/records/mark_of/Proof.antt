@@ -1,4 +1,4 @@
--- `probe::records::mark_of` meets its contract. Assumes nothing.
+-- `probe::records::mark_of`: each side of the branch is the definition at that value of `active`. Assumes nothing.
 use Rattle.probe.proofs.records.mark_of.Statement.{statement}
 use Rattle.probe.proofs.records.mark_of.Tie as tie
 

@@ -1,4 +1,5 @@
--- `probe::records::version_of` meets its contract. Assumes nothing.
+-- `probe::records::version_of`: by the test of `is_marked`, which is the definition's; the word of current and the mark are read
+-- as the numbers that they are. Assumes nothing.
 use mathlib.Core.Path.{sym, _∙_}
 use lib.IntN.{pos}
 use lib.ListN.{getD}
@@ -13,10 +14,12 @@ use Rattle.probe.proofs.records.version_of.Tie as tie
 marks : tie.Need-returns
 unfolding versionOf
 marks c =
-    let e = c .before .before .before in
-    let current : SFits w64 (getD (e .before .args .record-words .now) 0 (pos 0)) = search needs in
-    let mark : SFits w64 (getD (e .before .args .record-words .now) 1 (pos 0)) = search needs in
-    simp (sym (e .is-marked .ensures) ∙ c .before .before .if1 .taken, plain _ current, eq-bits _ (pos 1) mark (search needs))
+    let marked = c .before .before in
+    let tested = marked .before in
+    let words = tested .before .args .record-words .now in
+    let current : SFits w64 (getD words 0 (pos 0)) = search needs in
+    let mark : SFits w64 (getD words 1 (pos 0)) = search needs in
+    simp (sym (tested .is-marked .ensures) ∙ marked .if1 .taken, plain _ current, eq-bits _ (pos 1) mark (search needs))
 
 other : tie.Need-returns-2
 unfolding versionOf
