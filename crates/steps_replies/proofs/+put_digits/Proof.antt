@@ -1,5 +1,5 @@
--- The proof of the cycle of calls {put_digits}. The measure is the number: its tenth is less. One digit is the number below ten;
--- else the digits of its tenth are put by the call, and the last digit after them. Assumes nothing.
+-- `steps_replies::put_digits`, which calls itself: the measure is the number, whose tenth is less. Below ten one digit is put
+-- (`one-digit`), and from ten up the digits of the tenth, by the call, and the last one (`tenth-first`). Assumes nothing.
 use mathlib.Core.Path.{_≡_}
 use mathlib.Core.List.{[], _∷_, _++_}
 use Prim.Native.Nat.{ℕ, _+_, _/_, _%_, _<_}
@@ -36,39 +36,43 @@ claims t =
     (digit-reads.Asked, digit-reads.Learnt, put-byte-reads.Asked, put-byte-reads.Learnt, put-digits-below t, put-digits.Post)
 
 module _ (t : ℕ) where
-  put-byte-requires : put-digits-lts.Need-put-byte-requires (claims t) (put-digits-at t) put-digits.Post
-  put-byte-requires c κs =
-      let branch = c .before .before in
-      rw (c .digit .ensures, ← one-digit _ (branch .if1 .taken)) (branch .before .before .pre .1)
+  room-for-one : put-digits-lts.Need-put-byte-requires (claims t) (put-digits-at t) put-digits.Post
+  room-for-one c κs =
+      let below-ten = c .before .before in
+      rw (c .digit .ensures, ← one-digit _ (below-ten .if1 .taken)) (below-ten .before .before .pre .1)
 
-  returns : put-digits-lts.Need-returns (claims t) (put-digits-at t) put-digits.Post
-  returns c =
+  puts-one : put-digits-lts.Need-returns (claims t) (put-digits-at t) put-digits.Post
+  puts-one c =
       let put = c .before .before in
-      rw (one-digit _ (put .before .before .before .if1 .taken), ← put .before .digit .ensures) (put .put-byte .ensures)
+      let below-ten = put .before .before .before in
+      rw (one-digit _ (below-ten .if1 .taken), ← put .before .digit .ensures) (put .put-byte .ensures)
 
   tenth : (c : put-digits-lts.Else1 (claims t) (put-digits-at t) put-digits.Post)
       → let n = c .before .before .args .n in numeral (pos n) ≡ numeral (pos (n / 10)) ++ ((zeroByte + n % 10) ∷ [])
   tenth c = tenth-first _ (c .if1 .left) (c .before .before .fits .n .fits)
 
-  put-digits-requires : put-digits-lts.Need-put-digits-requires (claims t) (put-digits-at t) put-digits.Post
-  put-digits-requires c κs =
+  room-for-tenth : put-digits-lts.Need-put-digits-requires (claims t) (put-digits-at t) put-digits.Post
+  room-for-tenth c κs =
       let start = c .before .before .before in
       (omega arith, room-first _ (rw (tenth (c .before)) at (start .pre .1)))
 
-  put-byte-requires-2 : put-digits-lts.Need-put-byte-requires-2 (claims t) (put-digits-at t) put-digits.Post
-  put-byte-requires-2 c κs =
-      let put = c .before .before .before .before in
-      let branch = put .before .before in
-      rw (c .digit2 .ensures) (room-then (rw (tenth branch) at (branch .before .before .pre .1)) (put .put-digits .ensures))
+  room-for-last : put-digits-lts.Need-put-byte-requires-2 (claims t) (put-digits-at t) put-digits.Post
+  room-for-last c κs =
+      let next = c .before in
+      let put = next .before .before .before in
+      let from-ten = put .before .before in
+      rw (c .digit2 .ensures) (room-then (rw (tenth from-ten) at (from-ten .before .before .pre .1)) (put .put-digits .ensures))
 
-  returns-2 : put-digits-lts.Need-returns-2 (claims t) (put-digits-at t) put-digits.Post
-  returns-2 c =
+  puts-all : put-digits-lts.Need-returns-2 (claims t) (put-digits-at t) put-digits.Post
+  puts-all c =
       let last = c .before .before in
-      let put = last .before .before .before .before .before in
+      let next = last .before .before in
+      let put = next .before .before .before in
       rw (tenth (put .before .before), ← last .before .digit2 .ensures) (then (put .put-digits .ensures) (last .put-byte2 .ensures))
 
 pub +put-digits-spec : {M : Type 1} → statement M
 +put-digits-spec =
     close μ-put-digits λ t. put-digits-lts.spec (claims t) (put-digits-at t) put-digits.Post
-    (λ c κs. search needs) (put-byte-requires t) (λ c. search needs) (returns t)
-    (put-digits-requires t) (λ c κs. search needs) (put-byte-requires-2 t) (λ c. search needs) (returns-2 t)
+    (λ c κs. search needs) (room-for-one t) (λ c. search needs) (puts-one t)
+    (room-for-tenth t)
+    (λ c κs. search needs) (room-for-last t) (λ c. search needs) (puts-all t)

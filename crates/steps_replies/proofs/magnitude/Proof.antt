@@ -1,4 +1,4 @@
--- `steps_replies::magnitude` meets its contract: a word from 0 up is its own, and one below 0 has one more than its complement.
+-- `steps_replies::magnitude`: a number from 0 up is its own magnitude, and one below 0 has one more than its complement.
 -- Assumes nothing.
 use mathlib.Core.Path.{_≡_}
 use native.Mathlib.Omega.{arith}

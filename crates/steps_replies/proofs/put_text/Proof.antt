@@ -1,6 +1,7 @@
--- `steps_replies::put_text` meets its contract: the bytes passed stand, and one more after them is one more passed. Assumes
--- nothing.
-use Prim.Native.Nat.{_≤_, _-_}
+-- `steps_replies::put_text`: the loop's invariant is that the first i bytes of the word are put; a byte put after them makes one
+-- more (`then`). The measure is how many are left. Assumes nothing.
+use mathlib.Core.List.{List}
+use Prim.Native.Nat.{ℕ, _≤_, _-_}
 use native.Mathlib.Numerals.{add-one}
 use native.Mathlib.Omega.{arith}
 use lib.ListN.{length, take, length-take}
@@ -17,30 +18,31 @@ Inv-loop buffer₀ place word next₀ i₀ buffer next i = (i ≤ length word) �
 abbrev μ-loop : tie.MeasureT-loop
 μ-loop buffer₀ place word next₀ i₀ buffer next i = length word - i
 
-loop-holds : tie.Need-loop-holds Inv-loop μ-loop
-loop-holds c = (omega arith, nothing-put)
+-- the places: the loop's head from the byte that is read in a turn, and the word that was lent
+abbrev head : tie.After-shared-slice-known2 Inv-loop μ-loop → tie.At-loop Inv-loop μ-loop
+head byte = byte .before .before .before
 
-put-byte-requires : tie.Need-put-byte-requires Inv-loop μ-loop
-put-byte-requires c κs =
-    let l = c .before .before .before in
-    let word = l .before .before .before .args .word .now in
-    record { fits = omega (arith, same-long (l .loop .inv .1), length-take (l .loop .i) word) }
+abbrev word : tie.At-loop Inv-loop μ-loop → List ℕ
+word l = let start = l .before .before .before in start .args .word .now
 
-loop-again : tie.Need-loop-again Inv-loop μ-loop
-loop-again c =
-    let l = c .before .before .before .before .before .before in
-    let word = l .before .before .before .args .word .now in
-    (omega arith, rw (add-one, take-suc word (l .loop .i) 0 (omega arith)) (then (l .loop .inv .1) (c .before .before .put-byte .ensures)))
+room : tie.Need-put-byte-requires Inv-loop μ-loop
+room c κs =
+    let l = head c in
+    record { fits = omega (arith, same-long (l .loop .inv .1), length-take (l .loop .i) (word l)) }
 
-same-length : tie.Need-same-length Inv-loop μ-loop
-same-length c = same-long (c .before .loop .inv .1)
+again : tie.Need-loop-again Inv-loop μ-loop
+again c =
+    let put = c .before .before in
+    let l = head (put .before) in
+    (omega arith, rw (add-one, take-suc (word l) (l .loop .i) 0 (omega arith)) (then (l .loop .inv .1) (put .put-byte .ensures)))
 
-returns : tie.Need-returns Inv-loop μ-loop
-returns c =
-    let l = c .before in
-    rw (take-all (l .loop .i) (l .before .before .before .args .word .now) (omega arith)) at (l .loop .inv .1)
+ends : tie.Need-returns Inv-loop μ-loop
+ends c = let l = c .before in rw (take-all (l .loop .i) (word l) (omega arith)) at (l .loop .inv .1)
 
 pub put-text-spec : {M : Type 1} → statement M
 put-text-spec =
     tie.close
-    (tie.spec Inv-loop μ-loop loop-holds (λ c. search needs) put-byte-requires (λ c. search needs) (λ c. search needs) loop-again same-length returns)
+    (tie.spec Inv-loop μ-loop (λ c. (omega arith, nothing-put))
+    (λ c. search needs) room
+    (λ c. search needs) (λ c. search needs) again
+    (λ c. same-long (c .before .loop .inv .1)) ends)

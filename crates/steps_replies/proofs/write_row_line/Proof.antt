@@ -1,5 +1,5 @@
--- `steps_replies::write_row_line` meets its contract: without room nothing is written, and with it the line of the answer is put.
--- Assumes nothing.
+-- `steps_replies::write_row_line`: without room for the longest line nothing is written; with it each arm has room for its line,
+-- at most two numbers of 20 bytes after `row`, and what it put is written. Assumes nothing.
 use mir.Syntax.{w64}
 use mir.Val.{SFits}
 use borrow.Author.Needs.{needs}
@@ -11,29 +11,42 @@ use Rattle.steps_replies.specs.WrittenLaws.{unwritten, room-for, written
 use Rattle.steps_replies.proofs.write_row_line.Statement.{statement}
 use Rattle.steps_replies.proofs.write_row_line.Tie as tie
 
-returns-2 : tie.Need-returns-2
+no-room : tie.Need-returns
+no-room c = search unwritten
+
+row : tie.Need-returns-2
 unfolding rowLine
-returns-2 c =
+row c =
     let put = c .before .before in
-    let answer = put .before .before .before .before .answer .given in
-    let first : SFits w64 (answer .0 .1 .1 .0) = search needs in
-    let second : SFits w64 (answer .0 .1 .1 .1 .0) = search needs in
-    let line = rw (plain _ first, plain _ second) at (put .put-numbers-line .ensures) in
+    let word = put .before in
+    let answer = word .before .before .before .answer .given in
+    let total1 : SFits w64 (answer .0 .1 .1 .0) = search needs in
+    let total2 : SFits w64 (answer .0 .1 .1 .1 .0) = search needs in
+    let line = rw (plain _ total1, plain _ total2) at (put .put-numbers-line .ensures) in
     rw (answer .1) (search (needs, written, two-fitting, signed-bytes))
 
-returns-3 : tie.Need-returns-3
+none : tie.Need-returns-3
 unfolding rowLine
-returns-3 c = rw (c .before .before .before .before .before .enum-told .given .1) (search (needs, written))
+none c =
+    let put = c .before .before in
+    let no-row = put .before .before .before in
+    rw (no-row .enum-told .given .1) (search (needs, written))
 
-returns-4 : tie.Need-returns-4
+refused : tie.Need-returns-4
 unfolding rowLine
-returns-4 c = rw (c .before .before .before .before .before .answer2 .given .1) (search (written, refused-fitting))
+refused c =
+    let put = c .before .before in
+    let refusal = put .before .before .before in
+    rw (refusal .answer2 .given .1) (search (written, refused-fitting))
 
 pub write-row-line-spec : {M : Type 1} → statement M
 write-row-line-spec =
     tie.close
-    (tie.spec (λ c κs. search needs) (λ c. search unwritten)
+    (tie.spec
+    (λ c κs. search needs) no-room
     (λ c. search needs) (λ c. search needs) (λ c κs. search (needs, room-for, two-fitting, signed-bytes))
     (λ c. search needs) (λ c. search needs) (λ c κs. search (needs, room-for))
     (λ c. search needs) (λ c κs. search (room-for, refused-fitting))
-    (λ c. search needs) returns-2 (λ c. search needs) returns-3 (λ c. search needs) returns-4)
+    (λ c. search needs) row
+    (λ c. search needs) none
+    (λ c. search needs) refused)
