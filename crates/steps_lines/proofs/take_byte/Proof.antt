@@ -1,36 +1,33 @@
--- `steps_lines::take_byte` meets its contract: a newline ends the line, and any other byte lengthens it. Assumes nothing.
-use mathlib.Core.Path.{_≡_}
-use mathlib.Core.Bool.{true, false}
+-- `steps_lines::take_byte`: after a newline the session is the one whose line has ended (`at-newline`), and after any other byte
+-- the one whose line has it too (`at-other`), as `keep_byte` keeps it. Assumes nothing.
 use native.Mathlib.Omega.{arith}
-use lib.Dec.{eqb}
 use borrow.Author.Needs.{needs}
 use borrow.Author.Tests.{eq-eqb, ne-eqb}
-use Rattle.steps_replies.specs.Replies.{newlineByte}
 use Rattle.steps_lines.specs.LineSessionLaws.{at-newline, at-other}
 use Rattle.steps_lines.proofs.take_byte.Statement.{statement}
 use Rattle.steps_lines.proofs.take_byte.Tie as tie
 
-newline : (c : tie.Then1) → eqb (c .before .before .before .args .byte) newlineByte ≡ true
-newline c = eq-eqb _ _ (c .if1 .taken)
-
-other : (c : tie.Else1) → eqb (c .before .before .before .args .byte) newlineByte ≡ false
-other c = ne-eqb _ _ (c .if1 .left)
-
 ends : tie.Need-returns
 ends c =
-    let e = c .before .before .before in
-    (e .end-line .ensures .0, λ s w. rw (at-newline s _ (newline (e .before .before .before .before))) (e .end-line .ensures .1 s w))
+    let ended = c .before .before .before in
+    let lent = ended .before in
+    let newline = lent .before .before .before in
+    let e = ended .end-line .ensures in
+    (e .0, λ s w. rw (at-newline s _ (eq-eqb _ _ (newline .if1 .taken))) (e .1 s w))
 
 lengthens : tie.Need-returns-2
 lengthens c =
-    let k = c .before .before in
-    let f = k .before .before in
-    let start = f .before .before .before in (
-      record { whole = omega arith; kept = k .keep-byte .ensures .0; place = start .pre .0 .place },
-      λ s w. rw (at-other s _ (other f)) (record { words = w .words; versions = w .versions; line = k .keep-byte .ensures .1 (s .line) (w .line); output = w .output }),
+    let kept = c .before .before in
+    let other = kept .before .before in
+    let start = other .before .before .before in
+    let e = kept .keep-byte .ensures in (
+      record { whole = omega arith; kept = e .0; place = start .pre .0 .place },
+      λ s w. rw (at-other s _ (ne-eqb _ _ (other .if1 .left)))
+          (record { words = w .words; versions = w .versions; line = e .1 (s .line) (w .line); output = w .output }),
     )
 
 pub take-byte-spec : {M : Type 1} → statement M
 take-byte-spec =
     tie.close
-    (tie.spec (λ c κs. search needs) (λ c. search needs) (λ c. search needs) (λ c. search needs) ends (λ c κs. search needs) (λ c. search needs) lengthens)
+    (tie.spec (λ c κs. search needs) (λ c. search needs) (λ c. search needs) (λ c. search needs) ends
+    (λ c κs. search needs) (λ c. search needs) lengthens)
