@@ -1,4 +1,4 @@
--- `steps_commands::digit_of` meets its contract: a digit's byte is from '0' to '9'. Assumes nothing.
+-- `steps_commands::digit_of`: a digit's byte is from '0' to '9' (`digit-byte`), so without '0' it is below ten. Assumes nothing.
 use mathlib.Core.Path.{refl}
 use native.Mathlib.Omega.{arith}
 use borrow.Author.Needs.{needs}
@@ -6,11 +6,11 @@ use Rattle.steps_commands.specs.ReadDigits.{digit-byte}
 use Rattle.steps_commands.proofs.digit_of.Statement.{statement}
 use Rattle.steps_commands.proofs.digit_of.Tie as tie
 
-sub-result : tie.Need-sub-result
-sub-result c = digit-byte _ (c .pre) .0
+from-zero : tie.Need-sub-result
+from-zero c = digit-byte _ (c .pre) .0
 
-returns : tie.Need-returns
-returns c = (refl, omega (arith, digit-byte (c .args .byte) (c .pre)))
+below-ten : tie.Need-returns
+below-ten c = (refl, omega (arith, digit-byte (c .args .byte) (c .pre)))
 
 pub digit-of-spec : {M : Type 1} → statement M
-digit-of-spec = tie.close (tie.spec sub-result (λ c. search needs) returns)
+digit-of-spec = tie.close (tie.spec from-zero (λ c. search needs) below-ten)

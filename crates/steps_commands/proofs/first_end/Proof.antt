@@ -1,4 +1,5 @@
--- `steps_commands::first_end` meets its contract: no byte passed is a space. Assumes nothing.
+-- `steps_commands::first_end`: the loop's invariant is that no byte before i is a space, so that a space at i, or the end, is
+-- the first (`lowest-only`). The measure is how many bytes are left. Assumes nothing.
 use mathlib.Core.Path.{_≡_, _∙_}
 use mathlib.Core.Bool.{false}
 use Prim.Native.Nat.{ℕ, _≤_, _<_, _-_}
@@ -17,23 +18,26 @@ Inv-loop line i₀ i = (i ≤ length line) × ((j : ℕ) → j < i → spaceAt l
 abbrev μ-loop : tie.MeasureT-loop
 μ-loop line i₀ i = length line - i
 
-returns : tie.Need-returns Inv-loop μ-loop
-returns c =
-    let l = c .before .before .before in
-    lowest-only (found (l .loop .inv .1) (omega arith) (eq-eqb _ _ (c .if1 .taken))) (firstEnd-is _)
+at-space : tie.Need-returns Inv-loop μ-loop
+at-space c =
+    let head = c .before .before .before in
+    lowest-only (found (head .loop .inv .1) (omega arith) (eq-eqb _ _ (c .if1 .taken))) (firstEnd-is _)
 
-loop-again : tie.Need-loop-again Inv-loop μ-loop
-loop-again c =
-    let l = c .before .before .before in
-    (omega arith, below-next {p = spaceAt (l .before .args .line .now)} (l .loop .inv .1) (ne-eqb _ _ (c .if1 .left)))
+again : tie.Need-loop-again Inv-loop μ-loop
+again c =
+    let head = c .before .before .before in
+    (omega arith, below-next {p = spaceAt (head .before .args .line .now)} (head .loop .inv .1) (ne-eqb _ _ (c .if1 .left)))
 
-returns-2 : tie.Need-returns-2 Inv-loop μ-loop
-returns-2 c =
-    let l = c .before in
-    let end : l .loop .i ≡ length (l .before .args .line .now) = omega arith in
-    end ∙ lowest-only (exhausted (l .loop .inv .1) (omega arith)) (firstEnd-is _)
+at-end : tie.Need-returns-2 Inv-loop μ-loop
+at-end c =
+    let head = c .before in
+    let end : head .loop .i ≡ length (head .before .args .line .now) = omega arith in
+    end ∙ lowest-only (exhausted (head .loop .inv .1) (omega arith)) (firstEnd-is _)
 
 pub first-end-spec : {M : Type 1} → statement M
 first-end-spec =
     tie.close
-    (tie.spec Inv-loop μ-loop (λ c. (omega arith, λ j h. absurd (omega arith))) (λ c. omega arith) returns (λ c. omega arith) (λ c. omega arith) loop-again returns-2)
+    (tie.spec Inv-loop μ-loop (λ c. (omega arith, λ j h. absurd (omega arith)))
+    (λ c. omega arith) at-space
+    (λ c. omega arith) (λ c. omega arith) again
+    at-end)

@@ -1,4 +1,5 @@
--- `steps_commands::read_bare` meets its contract: the letters are tested in the definition's order. Assumes nothing.
+-- `steps_commands::read_bare`: the letters are tested in the order of `bareOf`, so each answer is that of its first test that
+-- holds. Assumes nothing.
 use borrow.Author.Tests.{eq-eqb, ne-eqb}
 use Rattle.steps_commands.specs.CommandParts.{bareOf}
 use Rattle.steps_commands.proofs.read_bare.Statement.{statement}

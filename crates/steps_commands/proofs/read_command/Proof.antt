@@ -1,5 +1,5 @@
--- `steps_commands::read_command` meets its contract: by its first two bytes, and no line past the longest asks anything.
--- Assumes nothing.
+-- `steps_commands::read_command`: a line is told by its length and its first two bytes, a law for each case; no line past the
+-- longest asks anything (`long-line`). Assumes nothing.
 use mathlib.Core.Path.{sym, _∙_}
 use native.Mathlib.Omega.{arith}
 use borrow.Author.Needs.{needs}
@@ -20,7 +20,9 @@ long : tie.Need-returns-3
 long c = sym (long-line _ (omega arith))
 
 numbered : tie.Need-returns-4
-numbered c = (rw part-to-end at (c .read-numbered .ensures)) ∙ numbered-line _ (eq-eqb _ _ (c .before .before .before .if4 .taken))
+numbered c =
+    let spaced = c .before .before .before in
+    (rw part-to-end at (c .read-numbered .ensures)) ∙ numbered-line _ (eq-eqb _ _ (spaced .if4 .taken))
 
 other : tie.Need-returns-5
 other c = other-line _ (omega arith) (ne-eqb _ _ (c .if4 .left))
@@ -28,4 +30,9 @@ other c = other-line _ (omega arith) (ne-eqb _ _ (c .if4 .left))
 pub read-command-spec : {M : Type 1} → statement M
 read-command-spec =
     tie.close
-    (tie.spec empty (λ c. search needs) (λ c κs. search needs) bare long (λ c. search needs) (λ c. search needs) (λ c. search needs) (λ c. search needs) (λ c. search needs) (λ c κs. search needs) numbered other)
+    (tie.spec empty
+    (λ c. search needs) (λ c κs. search needs) bare
+    long
+    (λ c. search needs)
+    (λ c. search needs) (λ c. search needs) (λ c. search needs) (λ c. search needs) (λ c κs. search needs) numbered
+    other)

@@ -1,4 +1,5 @@
--- `steps_commands::read_digits` meets its contract: every digit before place i was passed. Assumes nothing.
+-- `steps_commands::read_digits`: the loop's invariant is that the bytes before i are digits and have made `number`, below 10^i
+-- (`Passed`), so that one more of 19 fits. The measure is how many bytes are left. Assumes nothing.
 use mathlib.Core.Path.{sym, _∙_}
 use Prim.Native.Nat.{_≤_, _-_}
 use native.Mathlib.Omega.{arith}

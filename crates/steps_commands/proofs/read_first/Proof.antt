@@ -1,4 +1,5 @@
--- `steps_commands::read_first` meets its contract: where the first field ends, and its number. Assumes nothing.
+-- `steps_commands::read_first`: the code's two tests are those of `firstOf`: a space ends the first field, and the field is a
+-- number. Assumes nothing.
 use mathlib.Core.Path.{sym}
 use lib.Seq.{length-take-le}
 use native.Mathlib.Omega.{arith}

@@ -1,4 +1,4 @@
--- `steps_commands::read_four` meets its contract: the first number, and what follows its space. Assumes nothing.
+-- `steps_commands::read_four`: four numbers are a first one and, after its space, three more (`four-first`). Assumes nothing.
 use mathlib.Core.Path.{_≡_}
 use borrow.Author.Needs.{needs}
 use borrow.Rule.Slice.PartAt.{part-to-end}

@@ -1,5 +1,5 @@
--- `steps_commands::read_minus` meets its contract: what the digits make is tested against the limit, and its negative is made
--- from -1 down. Assumes nothing.
+-- `steps_commands::read_minus`: what the digits make is tested against the limit of `minusOf` (`minus-is`), and its negative is
+-- made from -1 down (`minus-one-more`). Assumes nothing.
 use mathlib.Core.Path.{_≡_}
 use Prim.Native.Nat.{_-_}
 use native.Mathlib.Omega.{arith}
@@ -14,32 +14,42 @@ use Rattle.steps_commands.specs.NumeralLaws.{minus-is, from-minus-one, m
 use Rattle.steps_commands.proofs.read_minus.Statement.{statement}
 use Rattle.steps_commands.proofs.read_minus.Tie as tie
 
+-- the places: the number that the digits make from where it is not 0, and the call that reads them
+abbrev made : tie.Else1 → tie.After-number
+made some = some .before .before
+
+abbrev digits : tie.After-number → tie.After-read-digits
+digits number = number .before .before
+
 bad : tie.Need-returns
 bad c = search (minus-is, ← c .before .before .read-digits .ensures, c .enum-told .given .1)
 
 nothing : tie.Need-returns-2
 nothing c =
-    let k = c .before .before in
-    search (minus-is, ← k .before .before .read-digits .ensures, k .number .given .1, c .if1 .taken)
+    let n = c .before .before in
+    search (minus-is, ← digits n .read-digits .ensures, n .number .given .1, c .if1 .taken)
 
-negative : (c : tie.Then2) → let n = c .before .before .before .number .given .0 .0 in negsuc 0 -ℤ toZ w64 (n - 1) ≡ negsuc (n - 1)
-negative c = rw (toZ-pos w64 (c .before .before .before .number .given .0 .0 - 1) (omega arith)) (from-minus-one _)
+negative : (c : tie.Then2) → let n = made (c .before) .number .given .0 .0 in negsuc 0 -ℤ toZ w64 (n - 1) ≡ negsuc (n - 1)
+negative c = rw (toZ-pos w64 (made (c .before) .number .given .0 .0 - 1) (omega arith)) (from-minus-one _)
 
 down : tie.Need-sub-t8
 down c = rw (negative c) (record { sfits = omega arith })
 
 is : tie.Need-returns-3
 is c =
-    let k = c .before .before .before in
+    let n = made (c .before) in
     rw (plain _ (down c), negative c, minus-one-more _ (c .before .if1 .left))
-    (search (minus-is, ← k .before .before .read-digits .ensures, k .number .given .1, le-leb))
+    (search (minus-is, ← digits n .read-digits .ensures, n .number .given .1, le-leb))
 
 past : tie.Need-returns-4
 past c =
-    let k = c .before .before .before in
-    search (minus-is, ← k .before .before .read-digits .ensures, k .number .given .1, lt-leb)
+    let n = made (c .before) in
+    search (minus-is, ← digits n .read-digits .ensures, n .number .given .1, lt-leb)
 
 pub read-minus-spec : {M : Type 1} → statement M
 read-minus-spec =
     tie.close
-    (tie.spec (λ c κs. search needs) (λ c. search needs) (λ c. search needs) bad nothing (λ c. search needs) (λ c. search needs) down is past)
+    (tie.spec (λ c κs. search needs) (λ c. search needs) (λ c. search needs) bad
+    nothing
+    (λ c. search needs) (λ c. search needs) down is
+    past)

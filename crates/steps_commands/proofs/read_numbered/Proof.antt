@@ -1,10 +1,14 @@
--- `steps_commands::read_numbered` meets its contract: the letters are tested in the definition's order, one to a line.
--- Assumes nothing.
+-- `steps_commands::read_numbered`: the letters are tested in the order of `numberedOf`, one to a line of the answers below, so
+-- each is that of its first test that holds. Assumes nothing.
 use borrow.Author.Needs.{needs}
 use borrow.Author.Tests.{eq-eqb, ne-eqb}
 use Rattle.steps_commands.specs.CommandParts.{numberedOf}
 use Rattle.steps_commands.proofs.read_numbered.Statement.{statement}
 use Rattle.steps_commands.proofs.read_numbered.Tie as tie
+
+bad : tie.Need-returns-5
+unfolding numberedOf
+bad c = search ne-eqb
 
 pub read-numbered-spec : {M : Type 1} → statement M
 unfolding numberedOf
@@ -15,4 +19,4 @@ read-numbered-spec =
     (λ c κs. search needs) (λ c κs. search needs) (λ c. search (eq-eqb, ne-eqb, c .update-of .ensures, c .before .read-four2 .ensures))
     (λ c κs. search needs) (λ c κs. search needs) (λ c. search (eq-eqb, ne-eqb, c .delete-of .ensures, c .before .read-two .ensures))
     (λ c κs. search needs) (λ c κs. search needs) (λ c. search (eq-eqb, ne-eqb, c .read-of .ensures, c .before .read-three .ensures))
-    (λ c. search ne-eqb))
+    bad)

@@ -1,4 +1,4 @@
--- `steps_commands::read_three` meets its contract: the first number, and what follows its space. Assumes nothing.
+-- `steps_commands::read_three`: three numbers are a first one and, after its space, two more (`three-first`). Assumes nothing.
 use mathlib.Core.Path.{_≡_}
 use borrow.Author.Needs.{needs}
 use borrow.Rule.Slice.PartAt.{part-to-end}

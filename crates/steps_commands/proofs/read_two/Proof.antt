@@ -1,4 +1,5 @@
--- `steps_commands::read_two` meets its contract: the first number, and what follows its space. Assumes nothing.
+-- `steps_commands::read_two`: two numbers are a first one and, after its space, one more (`two-first`, `one-number`).
+-- Assumes nothing.
 use mathlib.Core.Path.{_≡_}
 use borrow.Author.Needs.{needs}
 use borrow.Rule.Slice.PartAt.{part-to-end}

@@ -1,4 +1,5 @@
--- `steps_commands::read_unsigned` meets its contract: what the digits make is tested against the limit. Assumes nothing.
+-- `steps_commands::read_unsigned`: what the digits make is tested against the limit of `unsignedOf` (`unsigned-is`).
+-- Assumes nothing.
 use borrow.Author.Needs.{needs}
 use borrow.Author.Tests.{lt-ltb, le-ltb}
 use Rattle.steps_commands.specs.NumeralLaws.{unsigned-is}
@@ -10,13 +11,19 @@ bad c = search (unsigned-is, ← c .before .before .read-digits .ensures, c .enu
 
 is : tie.Need-returns-2
 is c =
-    let k = c .before .before in
-    search (needs, unsigned-is, ← k .before .before .read-digits .ensures, k .number .given .1, lt-ltb)
+    let number = c .before .before in
+    let digits = number .before .before in
+    search (needs, unsigned-is, ← digits .read-digits .ensures, number .number .given .1, lt-ltb)
 
 past : tie.Need-returns-3
 past c =
-    let k = c .before .before in
-    search (needs, unsigned-is, ← k .before .before .read-digits .ensures, k .number .given .1, le-ltb)
+    let number = c .before .before in
+    let digits = number .before .before in
+    search (needs, unsigned-is, ← digits .read-digits .ensures, number .number .given .1, le-ltb)
 
 pub read-unsigned-spec : {M : Type 1} → statement M
-read-unsigned-spec = tie.close (tie.spec (λ c κs. search needs) (λ c. search needs) (λ c. search needs) bad (λ c. search needs) is past)
+read-unsigned-spec =
+    tie.close
+    (tie.spec (λ c κs. search needs) (λ c. search needs) (λ c. search needs) bad
+    (λ c. search needs) is
+    past)

@@ -1,4 +1,4 @@
--- `steps_commands::update_of` meets its contract: the numbers go in as they are. Assumes nothing.
+-- `steps_commands::update_of`: the numbers go in as they are, and without them the command is bad. Assumes nothing.
 use borrow.Author.Needs.{needs}
 use Rattle.steps_commands.proofs.update_of.Statement.{statement}
 use Rattle.steps_commands.proofs.update_of.Tie as tie
