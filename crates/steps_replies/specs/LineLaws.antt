@@ -11,6 +11,8 @@ use Rattle.steps_replies.specs.Decimals.{mostWritten, numeral}
 use Rattle.steps_replies.specs.DecimalLaws.{natural-bytes}
 use Rattle.steps_replies.specs.Replies.{newlineByte, refusedWord, lineOf, refusedLine}
 use Rattle.steps_replies.specs.Written.{longestLine}
+use Rattle.steps_replies.specs.WrittenLaws.{then, room-first, room-then}
+use Rattle.steps_replies.specs.Puts.{Room, Put}
 
 -- ---- the pieces of a line
 pub no-number : (word : List ℕ) → lineOf word [] ≡ word ++ (newlineByte ∷ [])
@@ -22,6 +24,24 @@ one-number word z = rw append-nil
 pub two-numbers : (word : List ℕ) (one two : ℤ)
     → lineOf word (one ∷ two ∷ []) ≡ ((word ++ (spaceByte ∷ numeral one)) ++ (spaceByte ∷ numeral two)) ++ (newlineByte ∷ [])
 two-numbers word one two = rw (append-nil, append-assoc word (spaceByte ∷ numeral one) (spaceByte ∷ numeral two))
+
+-- ---- a line put piece after piece: each piece has room once those before it are put, and together they are the line
+pub room-for-end : {buffer buffer′ word : List ℕ} {place r : ℕ}
+    → Room buffer place (lineOf word []) → Put buffer place word r buffer′ → Room buffer′ r (newlineByte ∷ [])
+room-for-end room put = room-then (rw no-number at room) put
+
+-- with a number, which the code has as z′
+module _ {buffer buffer′ word : List ℕ} {place r : ℕ} {z′ : ℤ} (z : ℤ) (put : Put buffer place word r buffer′) where
+  pub room-for-number : Room buffer place (lineOf word (z ∷ [])) → z′ ≡ z → Room buffer′ r (spaceByte ∷ numeral z′)
+  room-for-number room same = rw same (room-then (room-first _ (rw one-number at room)) put)
+
+  module _ {buffer″ : List ℕ} {r′ : ℕ} (number : Put buffer′ r (spaceByte ∷ numeral z′) r′ buffer″) where
+    pub room-for-newline : Room buffer place (lineOf word (z ∷ [])) → z′ ≡ z → Room buffer″ r′ (newlineByte ∷ [])
+    room-for-newline room same = room-then (rw one-number at room) (then put (rw same at number))
+
+    pub line-put : {buffer‴ : List ℕ} {r″ : ℕ}
+        → Put buffer″ r′ (newlineByte ∷ []) r″ buffer‴ → z′ ≡ z → Put buffer place (lineOf word (z ∷ [])) r″ buffer‴
+    line-put newline same = rw one-number (then (then put (rw same at number)) newline)
 
 -- ---- the length of a line
 pub one-fitting : (word : List ℕ) (z : ℤ) → length word ≤ 8 → length (numeral z) ≤ mostWritten → length (lineOf word (z ∷ [])) ≤ longestLine

@@ -30,6 +30,11 @@ then {buffer} {us} {vs} {place} f g = record {
   stored = rw (sets-append buffer place us vs, g .stored, f .stored, f .answer);
 }
 
+-- a byte and what follows it
+pub byte-then : {buffer buffer′ buffer″ bytes : List ℕ} {byte place r r′ : ℕ}
+    → Put buffer place (byte ∷ []) r buffer′ → Put buffer′ r bytes r′ buffer″ → Put buffer place (byte ∷ bytes) r′ buffer″
+byte-then = then
+
 -- room for both is room for the first, and once it is put for the second
 pub room-first : {buffer us : List ℕ} (vs : List ℕ) {place : ℕ} → Room buffer place (us ++ vs) → Room buffer place us
 room-first {us} vs h = record { fits = omega (arith, length-append us vs) }
