@@ -1,4 +1,3 @@
-pub mod HeaderBlocks
 pub mod SlotBlocks
 pub mod SaveHeader
 pub mod SaveBlock

@@ -3,11 +3,12 @@ use mathlib.Core.Path.{_≡_, sym, _∙_}
 use mathlib.Core.Bool.{Bool}
 use mathlib.Core.List.{List}
 use Prim.Native.Nat.{ℕ}
+use lib.IntN.{pos}
 use Rattle.laws.specs.First.{first, unless}
-use Rattle.blocks_loads.specs.HeaderFields.{headerWrong}
+use Rattle.blocks_words.specs.Words.{wordAt}
+use Rattle.blocks_loads.specs.HeaderFields.{slotsPlace, currentPlace, headerWrong}
 use Rattle.blocks.specs.declared.Header.{Header}
-use Rattle.blocks.specs.declared.Header.the-variants.{Refused}
-use Rattle.blocks.specs.HeaderBlocks.{headerOf}
+use Rattle.blocks.specs.declared.Header.the-variants.{Holds, Refused}
 use Rattle.blocks.specs.BlockTests.{endTests}
 
 -- Load header: 14, 15, 16
@@ -16,6 +17,10 @@ loadHeaderTests block = endTests block (headerWrong block)
 
 unfoldable pub loadHeaderRefusal : List ℕ → ℕ
 loadHeaderRefusal block = first (loadHeaderTests block)
+
+-- slots and current, of a header's words
+unfoldable pub headerOf : List ℕ → Header
+headerOf block = Holds (wordAt block slotsPlace) (pos (wordAt block currentPlace))
 
 -- load header answers slots and current
 unfoldable pub loadHeaderAnswer : List ℕ → Header

@@ -19,15 +19,16 @@ use Rattle.table.specs.Slots.{badTable, slots, slotAt}
 use Rattle.table.specs.SlotLaws.{slotAt-past, same-length, by-slots}
 use Rattle.table.specs.Formed.{broken}
 use Rattle.table.specs.FormedLaws.{empty-zeros}
-use Rattle.blocks_words.specs.Words.{blockOf}
+use Rattle.blocks_words.specs.Words.{numberPlace, blockOf}
 use Rattle.blocks_words.specs.WordLaws.{block-length, block-word, check-right, filler-zero}
 use Rattle.blocks_words.specs.Longs.{blockSlots}
-use Rattle.blocks_loads.specs.LoadedSlots.{blocks, firstSlot, slotWrong, slotBlockWrong, loadedTo}
+use Rattle.blocks_loads.specs.HeaderFieldLaws.{header-words, header-right}
+use Rattle.blocks_loads.specs.LoadedSlots.{blocks, firstSlot, slotFillerWords, slotWrong, slotBlockWrong, loadedTo}
 use Rattle.blocks_loads.specs.AllowedLaws.{slots-allowed}
 use Rattle.blocks_loads.specs.LoadedLaws.{loaded-length, loaded-other, loaded-same}
 use Rattle.blocks.specs.declared.Header.the-variants.{Holds}
 use Rattle.blocks.specs.declared.Loaded.the-variants.{Done}
-use Rattle.blocks.specs.HeaderLaws.{header-saved, header-words, header-right, header-read}
+use Rattle.blocks.specs.HeaderLaws.{header-lawful, header-saved, header-read}
 use Rattle.blocks.specs.EndLaws.{end-0, load-block-end}
 use Rattle.blocks.specs.SlotBlocks.{blockBroken, slotsFrom, slotBlockWords}
 use Rattle.blocks.specs.SlotBlockLaws.{Fitting, front, table-sound, slots-saved, slot-words, slot-back}
@@ -42,13 +43,14 @@ module _ (t : List ℤ) (v : VersionRecord) (allowed : saveHeaderRefusal t v ≡
   pub header-loads : loadHeaderRefusal (saveHeaderBlock t v) ≡ 0
   unfolding loadHeaderRefusal
   header-loads =
-      let made = header-words t v allowed in
-      rw (header-saved t v allowed) (end-0 _ _ (block-length _ made) (check-right _ made) (header-right t v allowed))
+      let lawful = header-lawful t v allowed in
+      let made = header-words _ _ lawful in
+      rw (header-saved t v allowed) (end-0 _ _ (block-length _ made) (check-right _ made) (header-right _ _ lawful))
 
   -- and answers the slots of the table and the current version
   pub header-back : loadHeaderAnswer (saveHeaderBlock t v) ≡ Holds (slots t) (v .current)
   unfolding loadHeaderAnswer
-  header-back = rw (header-loads, header-saved t v allowed) (header-read t v allowed)
+  header-back = rw header-loads (header-read t v allowed)
 
 -- ---- a block
 -- one table has the slots of another from a place on, so many of them, and its own elsewhere
@@ -76,7 +78,7 @@ module _ (t u : List ℤ) (v : VersionRecord) (k : ℕ) (fitting : Fitting t) (s
   unfolding slotBlockWords
   slots-right =
       let made = slot-words t v k allowed in
-      slots-allowed u v k _ (block-word _ made 0 (omega arith)) (filler-zero _ made (k ∷ slotsFrom t (firstSlot k) blockSlots) 14 refl) slot-right
+      slots-allowed u v k _ (block-word _ made numberPlace (omega arith)) (filler-zero _ made (k ∷ slotsFrom t (firstSlot k) blockSlots) slotFillerWords refl) slot-right
 
   -- a load of it is not refused
   pub block-loads : loadBlockRefusal u v k (saveBlockBlock t v k) ≡ 0

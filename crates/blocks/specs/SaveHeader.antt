@@ -4,12 +4,13 @@ use mathlib.Core.Path.{_≡_, sym, _∙_}
 use mathlib.Core.Bool.{Bool}
 use mathlib.Core.List.{List}
 use Prim.Native.Nat.{ℕ}
-use lib.IntN.{ℤ}
+use lib.IntN.{ℤ, natAbs}
 use Rattle.laws.specs.First.{first, unless}
 use Rattle.versions.specs.declared.VersionRecord.{VersionRecord}
+use Rattle.table.specs.Slots.{slots}
 use Rattle.blocks_words.specs.Words.{blockOf, zeroBlock}
+use Rattle.blocks_loads.specs.HeaderFields.{headerWords}
 use Rattle.blocks.specs.declared.Saved.{Saved}
-use Rattle.blocks.specs.HeaderBlocks.{headerWords}
 use Rattle.blocks.specs.BlockTests.{idleTests}
 
 -- Save header: 1, 2, 7
@@ -19,8 +20,9 @@ saveHeaderTests t v = idleTests t v
 unfoldable pub saveHeaderRefusal : List ℤ → VersionRecord → ℕ
 saveHeaderRefusal t v = first (saveHeaderTests t v)
 
+-- the header of the table's slots and the current version
 unfoldable pub saveHeaderBlock : List ℤ → VersionRecord → List ℕ
-saveHeaderBlock t v = unless (saveHeaderRefusal t v) (λ n. zeroBlock) (blockOf (headerWords t v))
+saveHeaderBlock t v = unless (saveHeaderRefusal t v) (λ n. zeroBlock) (blockOf (headerWords (slots t) (natAbs (v .current))))
 
 -- the contract, and that it allows one outcome
 pub record SaveHeaderContract (t : List ℤ) (v : VersionRecord) (r : Saved) : Type 0 where

@@ -32,8 +32,8 @@ use Rattle.blocks_words.specs.WordLaws.{BlockWords, block-word}
 use Rattle.blocks_words.specs.FollowLaws.{whole}
 use Rattle.blocks_words.specs.Follows.{FollowedBy, Follow}
 use Rattle.blocks_words.specs.LongLaws.{slot-of-words}
-use Rattle.blocks_words.specs.Longs.{blockSlots, halves, halvesOf, longAt, blockSlot}
-use Rattle.blocks_loads.specs.LoadedSlots.{firstSlot}
+use Rattle.blocks_words.specs.Longs.{blockSlots, slotHalves, halves, halvesOf, longAt, blockSlot}
+use Rattle.blocks_loads.specs.LoadedSlots.{firstSlot, slotFillerWords}
 use Rattle.blocks.specs.SlotBlocks.{slotsFrom, slotBlockWords, blockBroken}
 use Rattle.blocks.specs.FrontLaws.{front-passes, within}
 use Rattle.blocks.specs.BlockTests.{blockTests, slotTests}
@@ -44,16 +44,16 @@ abbrev pub Fitting : List ℤ → Type 0
 Fitting t = (i : ℕ) → SFits w64 (word t i)
 
 -- ---- halves in their groups: two to a word, sixteen to a slot
-slotHalves : Slot → List ℕ
-slotHalves x = flatMap halves (wordsOf x)
+slotInHalves : Slot → List ℕ
+slotInHalves x = flatMap halves (wordsOf x)
 
-slotHalves-length : (x : Slot) → length (slotHalves x) ≡ 16
-unfolding slotHalves flatMap
-slotHalves-length x = refl
+slotInHalves-length : (x : Slot) → length (slotInHalves x) ≡ slotHalves
+unfolding slotInHalves flatMap
+slotInHalves-length x = refl
 
-slotHalves-below : (x : Slot) → EachBelow wordBase (slotHalves x)
-unfolding slotHalves
-slotHalves-below x = groups-below halves wordBase (omega arith) (λ z. digits-below wordBase 2 (ofZ w64 z) (omega arith)) (wordsOf x)
+slotInHalves-below : (x : Slot) → EachBelow wordBase (slotInHalves x)
+unfolding slotInHalves
+slotInHalves-below x = groups-below halves wordBase (omega arith) (λ z. digits-below wordBase 2 (ofZ w64 z) (omega arith)) (wordsOf x)
 
 -- so many slots from a place
 slotsAt : List ℤ → ℕ → ℕ → List Slot
@@ -71,18 +71,18 @@ slotsAt-at t from zero j h = absurd (omega arith)
 slotsAt-at t from (suc n) zero h = rw add-zero
 slotsAt-at t from (suc n) (suc j) h = rw (add-suc, ← suc-add) (slotsAt-at t (suc from) n j (omega arith))
 
-slotsFrom-groups : (t : List ℤ) (from n : ℕ) → slotsFrom t from n ≡ flatMap slotHalves (slotsAt t from n)
-unfolding flatMap slotsAt slotHalves
+slotsFrom-groups : (t : List ℤ) (from n : ℕ) → slotsFrom t from n ≡ flatMap slotInHalves (slotsAt t from n)
+unfolding flatMap slotsAt slotInHalves
 slotsFrom-groups t from zero = refl
 slotsFrom-groups t from (suc n) = rw (slotsFrom-groups t (suc from) n)
 
 slotsFrom-below : (t : List ℤ) (from n : ℕ) → EachBelow wordBase (slotsFrom t from n)
-slotsFrom-below t from n = rw (slotsFrom-groups t from n) (groups-below slotHalves wordBase (omega arith) slotHalves-below (slotsAt t from n))
+slotsFrom-below t from n = rw (slotsFrom-groups t from n) (groups-below slotInHalves wordBase (omega arith) slotInHalves-below (slotsAt t from n))
 
 -- sixteen halves to a slot
-slotsFrom-length : (t : List ℤ) (from n : ℕ) → length (slotsFrom t from n) ≡ n * 16
+slotsFrom-length : (t : List ℤ) (from n : ℕ) → length (slotsFrom t from n) ≡ n * slotHalves
 slotsFrom-length t from n =
-    rw (slotsFrom-groups t from n) (groups-length slotHalves 16 slotHalves-length (slotsAt t from n) ∙ ap (λ m. m * 16) (slotsAt-length t from n))
+    rw (slotsFrom-groups t from n) (groups-length slotInHalves slotHalves slotInHalves-length (slotsAt t from n) ∙ ap (λ m. m * slotHalves) (slotsAt-length t from n))
 
 -- one slot more
 slotsFrom-more : (t : List ℤ) (from n : ℕ) → slotsFrom t from (suc n) ≡ slotsFrom t from n ++ halvesOf (wordsOf (slotAt t (from + n)))
@@ -91,12 +91,12 @@ slotsFrom-more t from (suc n) = rw (slotsFrom-more t (suc from) n, suc-add, add-
 
 -- a half of a word of a slot stands at its place
 half-at : (t : List ℤ) (from m j n h : ℕ) → j < m → n < slotWords → h < 2
-    → getD (slotsFrom t from m) (j * 16 + (n * 2 + h)) 0 ≡ getD (halves (getD (wordsOf (slotAt t (from + j))) n (pos 0))) h 0
-unfolding slotHalves
+    → getD (slotsFrom t from m) (j * slotHalves + (n * 2 + h)) 0 ≡ getD (halves (getD (wordsOf (slotAt t (from + j))) n (pos 0))) h 0
+unfolding slotInHalves
 half-at t from m j n h a b c =
     rw (
       slotsFrom-groups t from m,
-      groups-at slotHalves 16 slotHalves-length (slotsAt t from m) j (n * 2 + h) empty 0 (rw slotsAt-length a) (omega arith),
+      groups-at slotInHalves slotHalves slotInHalves-length (slotsAt t from m) j (n * 2 + h) empty 0 (rw slotsAt-length a) (omega arith),
       slotsAt-at t from m j a,
     )
     (groups-at halves 2 (λ z. refl) (wordsOf (slotAt t (from + j))) n h (pos 0) 0 b c)
@@ -108,14 +108,14 @@ numbered t k n = k ∷ slotsFrom t (firstSlot k) n
 module _ (t : List ℤ) (k n : ℕ) {block : List ℕ} {check : ℕ} (w : FollowedBy (numbered t k n) block check) where
   -- one slot more
   pub slot-written : {block′ : List ℕ} {check′ : ℕ}
-      → Follow (n * 16 + 1) block check (halvesOf (wordsOf (slotAt t (firstSlot k + n)))) block′ check′ → FollowedBy (numbered t k (n + 1)) block′ check′
+      → Follow (n * slotHalves + 1) block check (halvesOf (wordsOf (slotAt t (firstSlot k + n)))) block′ check′ → FollowedBy (numbered t k (n + 1)) block′ check′
   slot-written f =
       rw (add-one, slotsFrom-more t (firstSlot k) n) (f .after (numbered t k n) (omega (arith, slotsFrom-length t (firstSlot k) n)) w)
 
   -- all seven, and the check
   pub slots-whole : n ≡ blockSlots → sets block (checkPlace * wordBytes) (digits byteBase wordBytes check) ≡ blockOf (slotBlockWords t k)
   unfolding slotBlockWords
-  slots-whole e = whole (numbered t k blockSlots) 14 refl (rw e at w)
+  slots-whole e = whole (numbered t k blockSlots) slotFillerWords refl (rw e at w)
 
 -- and refusal 6: a broken one is enough, and where none is it is not given
 module _ (t : List ℤ) (v : VersionRecord) (k : ℕ) where
@@ -148,32 +148,32 @@ module _ (t : List ℤ) (v : VersionRecord) (k : ℕ) (allowed : saveBlockRefusa
   unfolding slotBlockWords
   slot-words = record { size = refl; below = below }
     where
-      below : EachBelow wordBase (k ∷ slotsFrom t (firstSlot k) blockSlots ++ replicate 14 0)
+      below : EachBelow wordBase (k ∷ slotsFrom t (firstSlot k) blockSlots ++ replicate slotFillerWords 0)
       below zero = omega (arith, within t v k front .high, lengths t table-sound .few)
       below (suc i) =
-          append-below wordBase (slotsFrom t (firstSlot k) blockSlots) (replicate 14 0) (slotsFrom-below t (firstSlot k) blockSlots)
-          (zeros-below wordBase (omega arith) 14) i
+          append-below wordBase (slotsFrom t (firstSlot k) blockSlots) (replicate slotFillerWords 0) (slotsFrom-below t (firstSlot k) blockSlots)
+          (zeros-below wordBase (omega arith) slotFillerWords) i
 
   -- each read off its place
-  half-back : (j n h p : ℕ) → j < blockSlots → n < slotWords → h < 2 → p ≡ suc (j * 16 + (n * 2 + h))
+  half-back : (j n h p : ℕ) → j < blockSlots → n < slotWords → h < 2 → p ≡ suc (j * slotHalves + (n * 2 + h))
       → wordAt (blockOf (slotBlockWords t k)) p ≡ getD (halves (getD (wordsOf (slotAt t (firstSlot k + j))) n (pos 0))) h 0
   unfolding slotBlockWords
   half-back j n h p a b c e =
       block-word (slotBlockWords t k) slot-words p (omega arith)
       ∙ ap (λ i. getD (slotBlockWords t k) i 0) e
-      ∙ List·getD-append (slotsFrom t (firstSlot k) blockSlots) (replicate 14 0) 0 (j * 16 + (n * 2 + h)) (omega arith)
+      ∙ List·getD-append (slotsFrom t (firstSlot k) blockSlots) (replicate slotFillerWords 0) 0 (j * slotHalves + (n * 2 + h)) (omega arith)
       ∙ half-at t (firstSlot k) blockSlots j n h a b c
 
   module _ (fitting : Fitting t) where
     -- a word of a slot, from its two halves
     long-back : (j n : ℕ) → j < blockSlots → n < slotWords
-        → longAt (blockOf (slotBlockWords t k)) (j * 16 + (n * 2 + 1)) ≡ getD (wordsOf (slotAt t (firstSlot k + j))) n (pos 0)
+        → longAt (blockOf (slotBlockWords t k)) (j * slotHalves + (n * 2 + 1)) ≡ getD (wordsOf (slotAt t (firstSlot k + j))) n (pos 0)
     long-back j n a b =
         let z : ℤ = getD (wordsOf (slotAt t (firstSlot k + j))) n (pos 0) in
         let f : SFits w64 z = rw (word-at t (firstSlot k + j) n b) (fitting _) in
         rw (
-          half-back j n 0 (j * 16 + (n * 2 + 1)) a b (omega arith) (omega arith),
-          half-back j n 1 (j * 16 + (n * 2 + 1) + 1) a b (omega arith) (omega arith),
+          half-back j n 0 (j * slotHalves + (n * 2 + 1)) a b (omega arith) (omega arith),
+          half-back j n 1 (j * slotHalves + (n * 2 + 1) + 1) a b (omega arith) (omega arith),
           number-digits wordBase 2 (ofZ w64 z) (omega arith) (ofZ-fits w64 z f .fits),
         )
         (plain z f)

@@ -11,7 +11,7 @@ use Rattle.versions.specs.declared.VersionRecord.{VersionRecord}
 use Rattle.table.specs.Slots.{wordsOf, slotAt}
 use Rattle.table.specs.Formed.{broken}
 use Rattle.blocks_words.specs.Longs.{blockSlots, halvesOf}
-use Rattle.blocks_loads.specs.LoadedSlots.{blocks, firstSlot}
+use Rattle.blocks_loads.specs.LoadedSlots.{blocks, firstSlot, slotFillerWords}
 
 -- 5: block number not in 1 to slots / 7 rounded up
 abbrev pub noSuchBlock : List ℤ → ℕ → Bool
@@ -24,7 +24,7 @@ slotsFrom t from (suc n) = halvesOf (wordsOf (slotAt t from)) ++ slotsFrom t (su
 
 -- word 0 is k; words 1 to 112 hold seven slots; words 113 to 126 are zero
 unfoldable pub slotBlockWords : List ℤ → ℕ → List ℕ
-slotBlockWords t k = k ∷ slotsFrom t (firstSlot k) blockSlots ++ replicate 14 0
+slotBlockWords t k = k ∷ slotsFrom t (firstSlot k) blockSlots ++ replicate slotFillerWords 0
 
 -- 6 (its slots): one of them is not well formed
 unfoldable pub blockBroken : List ℤ → VersionRecord → ℕ → Bool

@@ -82,7 +82,7 @@ pub fn save_header(table: &[i64], versions: VersionRecord) -> Saved
     if refusal != 0 {
         return refused(refusal);
     }
-    let count = table.len() / table::SLOT_WORDS;
+    let count = table::slots_of(table);
     let current = versions.current;
     let block = header_blocks::header_block(count as u32, current as u32);
     Saved {

@@ -16,7 +16,7 @@ use versions::VersionRecord;
 pub fn no_such_block(table: &[i64], number: usize) -> bool
     ensures { λ r. ⌜ r ≡ noSuchBlock (now (table .entry)) number ⌝ }
 {
-    let slots = table.len() / table::SLOT_WORDS;
+    let slots = table::slots_of(table);
     !((1 <= number) & (number <= (slots + (BLOCK_SLOTS - 1)) / BLOCK_SLOTS))
 }
 
@@ -37,8 +37,8 @@ pub fn save_slots(table: &[i64], versions: VersionRecord, number: usize) -> Save
     let mut j: usize = 0;
     while j < BLOCK_SLOTS {
         let x = table::slot_at(table, from + j);
-        if !table::well_formed(x, versions) {
-            return crate::refused(6);
+        if table::is_broken(x, versions) {
+            return crate::refused(refusals::BROKEN_SLOT);
         }
         check = longs::write_slot(&mut block, j, x, check);
         j += 1;

@@ -11,7 +11,7 @@ use Rattle.laws.specs.Lowest.{some}
 use Rattle.versions.specs.declared.VersionRecord.{VersionRecord}
 use Rattle.table.specs.Slots.{badTable, slots, putSlot}
 use Rattle.table.specs.Formed.{allZeros, wellFormed}
-use Rattle.blocks_words.specs.Words.{wordAt, nonzero}
+use Rattle.blocks_words.specs.Words.{numberPlace, wordAt, nonzero}
 use Rattle.blocks_words.specs.Longs.{blockSlots, blockSlot}
 
 -- slots / 7 rounded up
@@ -21,6 +21,13 @@ blocks t = (slots t + 6) / blockSlots
 -- block k holds seven slots, from slot 7 × (k − 1)
 abbrev pub firstSlot : ℕ → ℕ
 firstSlot k = blockSlots * (k - 1)
+
+-- words 113 to 126 are zero
+abbrev pub slotFillerPlace : ℕ
+slotFillerPlace = 113
+
+abbrev pub slotFillerWords : ℕ
+slotFillerWords = 14
 
 -- a block of a table: what code below the tests requires
 pub record Within (t : List ℤ) (k : ℕ) : Type 0 where
@@ -36,8 +43,8 @@ slotWrong t v k block j =
 -- 16: wrong word 0, a nonzero filler, a slot not well formed
 unfoldable pub slotBlockWrong : List ℤ → VersionRecord → ℕ → List ℕ → Bool
 slotBlockWrong t v k block =
-    any (not (eqb (wordAt block 0) k)
-    ∷ nonzero block 113 14
+    any (not (eqb (wordAt block numberPlace) k)
+    ∷ nonzero block slotFillerPlace slotFillerWords
     ∷ some (slotWrong t v k block) blockSlots
     ∷ [])
 

@@ -5,12 +5,10 @@ ghost use Rattle.blocks_words.specs.Words.{blockBytes};
 ghost use Rattle.blocks_loads.specs.HeaderFields.{headerWrong};
 use versions::VersionRecord;
 
-// Block 0: word 1 is the slots, at most 1,024; word 2 the current version; the 124 words from 3 on are zero.
+// Block 0: word 1 is the slots, word 2 the current version; the 124 words from 3 on are zero.
 pub const SLOTS_PLACE: usize = 1;
 
 pub const CURRENT_PLACE: usize = 2;
-
-const MOST_SLOTS: u32 = 1024;
 
 const FILLER_PLACE: usize = 3;
 
@@ -22,10 +20,10 @@ pub fn header_wrong(block: &[u8]) -> bool
     ensures { λ r. ⌜ r ≡ headerWrong (now (block .entry)) ⌝ }
 {
     let number = blocks_words::word_at(block, blocks_words::NUMBER_PLACE);
-    let slots = blocks_words::word_at(block, SLOTS_PLACE);
+    let slots = blocks_words::word_at(block, SLOTS_PLACE) as usize;
     let current = blocks_words::word_at(block, CURRENT_PLACE) as i64;
     (number != 0)
-        | !((1 <= slots) & (slots <= MOST_SLOTS))
+        | !((1 <= slots) & (slots <= table::MOST_SLOTS))
         | !((1 <= current) & (current <= VersionRecord::LARGEST))
         | blocks_words::is_nonzero(block, FILLER_PLACE, FILLER_WORDS)
 }

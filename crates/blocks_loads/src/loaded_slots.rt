@@ -26,8 +26,8 @@ fn slot_wrong(table: &[i64], versions: VersionRecord, number: usize, block: &[u8
     ensures { λ r. ⌜ r ≡ slotWrong (now (table .entry)) versions number (now (block .entry)) j ⌝ }
 {
     let x = longs::slot_of(block, j);
-    if BLOCK_SLOTS * (number - 1) + j < table.len() / table::SLOT_WORDS {
-        return !table::well_formed(x, versions);
+    if BLOCK_SLOTS * (number - 1) + j < table::slots_of(table) {
+        return table::is_broken(x, versions);
     }
     !table::all_zeros(x)
 }
@@ -70,7 +70,7 @@ fn load_slot(table: &mut [i64], number: usize, block: &[u8], j: usize)
     ensures { λ r. ⌜ now (table .exit) ≡ slotLoaded (now (table .entry)) number (now (block .entry)) j ⌝ }
 {
     let place = BLOCK_SLOTS * (number - 1) + j;
-    if place >= table.len() / table::SLOT_WORDS {
+    if place >= table::slots_of(table) {
         return;
     }
     let x = longs::slot_of(block, j);

@@ -17,7 +17,7 @@ use Rattle.table.specs.declared.Slot.{Slot}
 use Rattle.table.specs.Slots.{slotWords, wordsOf}
 use Rattle.table.specs.SlotLaws.{slot-path}
 use Rattle.table.specs.Fits.{Below}
-use Rattle.blocks_words.specs.Longs.{longAt, blockSlot}
+use Rattle.blocks_words.specs.Longs.{slotHalves, longAt, blockSlot}
 
 -- 2^63
 abbrev sign : ℕ
@@ -40,7 +40,7 @@ pub high-minus : (b : ℕ) → sign ≤ b → negsuc 0 -ℤ toZ w64 (ones - b) �
 high-minus b h = rw (toZ-pos w64 (ones - b) (omega arith)) (minus (ones - b))
 
 -- ---- a slot of a block is the one whose words stand there
-pub slot-of-words : (block : List ℕ) (j : ℕ) (x : Slot) → ((n : ℕ) → n < slotWords → longAt block (j * 16 + (n * 2 + 1)) ≡ getD (wordsOf x) n (pos 0)) → blockSlot block j ≡ x
+pub slot-of-words : (block : List ℕ) (j : ℕ) (x : Slot) → ((n : ℕ) → n < slotWords → longAt block (j * slotHalves + (n * 2 + 1)) ≡ getD (wordsOf x) n (pos 0)) → blockSlot block j ≡ x
 unfolding blockSlot
 slot-of-words block j x at =
     slot-path (at 0 (omega arith)) (at 1 (omega arith)) (at 2 (omega arith)) (at 3 (omega arith)) (at 4 (omega arith)) (at 5 (omega arith)) (at 6 (omega arith))

@@ -12,6 +12,10 @@ use Rattle.blocks_words.specs.Words.{wordBase, wordAt}
 abbrev pub blockSlots : ℕ
 blockSlots = 7
 
+-- sixteen halves to a slot
+abbrev pub slotHalves : ℕ
+slotHalves = 16
+
 -- ---- to words
 -- each 64-bit word as two's complement, low half first
 abbrev pub halves : ℤ → List ℕ
@@ -29,12 +33,12 @@ longAt block i = toZ w64 (number wordBase (wordAt block i ∷ wordAt block (i + 
 -- slot j of a block, from 0: sixteen halves from word 1 + 16 × j
 unfoldable pub blockSlot : List ℕ → ℕ → Slot
 blockSlot block j = record {
-  run = longAt block (j * 16 + 1);
-  operation = longAt block (j * 16 + 3);
-  key1 = longAt block (j * 16 + 5);
-  key2 = longAt block (j * 16 + 7);
-  current1 = longAt block (j * 16 + 9);
-  current2 = longAt block (j * 16 + 11);
-  old1 = longAt block (j * 16 + 13);
-  old2 = longAt block (j * 16 + 15);
+  run = longAt block (j * slotHalves + 1);
+  operation = longAt block (j * slotHalves + 3);
+  key1 = longAt block (j * slotHalves + 5);
+  key2 = longAt block (j * slotHalves + 7);
+  current1 = longAt block (j * slotHalves + 9);
+  current2 = longAt block (j * slotHalves + 11);
+  old1 = longAt block (j * slotHalves + 13);
+  old2 = longAt block (j * slotHalves + 15);
 }

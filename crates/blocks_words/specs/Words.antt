@@ -11,6 +11,10 @@ use Rattle.laws.specs.Lowest.{some}
 abbrev pub blockBytes : ℕ
 blockBytes = 512
 
+-- word 0 is the number of the block
+abbrev pub numberPlace : ℕ
+numberPlace = 0
+
 -- word 127 is the check
 abbrev pub checkPlace : ℕ
 checkPlace = 127

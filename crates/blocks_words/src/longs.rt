@@ -8,7 +8,7 @@ ghost use mir.Val.{toZ, ofZ};
 ghost use Rattle.table.specs.Slots.{wordsOf};
 ghost use Rattle.blocks_words.specs.Words.{blockBytes, checkPlace, wordBase};
 ghost use Rattle.blocks_words.specs.Follows.{Follow};
-ghost use Rattle.blocks_words.specs.Longs.{blockSlots, halves, halvesOf, longAt, blockSlot};
+ghost use Rattle.blocks_words.specs.Longs.{blockSlots, slotHalves, halves, halvesOf, longAt, blockSlot};
 use table::Slot;
 
 // A half is a digit of a number in base 2^32.
@@ -23,6 +23,23 @@ const ONES: u64 = 18_446_744_073_709_551_615;
 const SLOT_HALVES: usize = 16;
 
 pub const BLOCK_SLOTS: usize = 7;
+
+// The places of a slot's words in a block, each that of its low half: those of slot 0, which begins at word 1.
+const RUN: usize = 1;
+
+const OPERATION: usize = 3;
+
+const KEY1: usize = 5;
+
+const KEY2: usize = 7;
+
+const CURRENT1: usize = 9;
+
+const CURRENT2: usize = 11;
+
+const OLD1: usize = 13;
+
+const OLD2: usize = 15;
 
 // A signed word's bits.
 fn bits_of(long: i64) -> u64
@@ -77,14 +94,14 @@ pub fn slot_of(block: &[u8], j: usize) -> Slot
 {
     let at = j * SLOT_HALVES;
     Slot {
-        run: long_at(block, at + 1),
-        operation: long_at(block, at + 3),
-        key1: long_at(block, at + 5),
-        key2: long_at(block, at + 7),
-        current1: long_at(block, at + 9),
-        current2: long_at(block, at + 11),
-        old1: long_at(block, at + 13),
-        old2: long_at(block, at + 15),
+        run: long_at(block, at + RUN),
+        operation: long_at(block, at + OPERATION),
+        key1: long_at(block, at + KEY1),
+        key2: long_at(block, at + KEY2),
+        current1: long_at(block, at + CURRENT1),
+        current2: long_at(block, at + CURRENT2),
+        old1: long_at(block, at + OLD1),
+        old2: long_at(block, at + OLD2),
     }
 }
 
@@ -121,17 +138,17 @@ fn write_four(
 // A slot's halves written after the words before them; answers the check with them added.
 pub fn write_slot(block: &mut [u8; 512], j: usize, x: Slot, check: u32) -> u32
     requires { ⌜ j < blockSlots ⌝ }
-    ensures { λ r. ⌜ Follow (j * 16 + 1) (now (block .entry)) check (halvesOf (wordsOf x)) (now (block .exit)) r ⌝ }
+    ensures { λ r. ⌜ Follow (j * slotHalves + 1) (now (block .entry)) check (halvesOf (wordsOf x)) (now (block .exit)) r ⌝ }
 {
-    let at = j * SLOT_HALVES + 1;
-    let run = x.run;
-    let operation = x.operation;
-    let key1 = x.key1;
-    let key2 = x.key2;
-    let current1 = x.current1;
-    let current2 = x.current2;
-    let old1 = x.old1;
-    let old2 = x.old2;
-    let half = write_four(block, at, run, operation, key1, key2, check);
-    write_four(block, at + 8, current1, current2, old1, old2, half)
+    let at = j * SLOT_HALVES;
+    let half = write_four(block, at + RUN, x.run, x.operation, x.key1, x.key2, check);
+    write_four(
+        block,
+        at + CURRENT1,
+        x.current1,
+        x.current2,
+        x.old1,
+        x.old2,
+        half,
+    )
 }

@@ -4,9 +4,8 @@ use native.Mathlib.Omega.{arith}
 use mir.Syntax.{w64}
 use mir.ValLaws.{toZ-pos}
 use borrow.Author.Needs.{needs}
-use Rattle.blocks.specs.HeaderBlocks.{headerOf}
 use Rattle.blocks.specs.EndLaws.{end-14, end-15, end-16, end-0}
-use Rattle.blocks.specs.LoadHeader.{loadHeaderRefusal}
+use Rattle.blocks.specs.LoadHeader.{loadHeaderRefusal, headerOf}
 use Rattle.blocks.specs.ContractLaws.{header-not-loaded, header-loaded}
 use Rattle.blocks.proofs.load_header.Statement.{statement}
 use Rattle.blocks.proofs.load_header.Tie as tie

@@ -10,7 +10,6 @@ use Rattle.laws.specs.FirstLaws.{none}
 use Rattle.laws.specs.First.{first}
 use Rattle.table.specs.SlotLaws.{lengths}
 use Rattle.blocks.specs.BlockTests.{idleTests}
-use Rattle.blocks.specs.HeaderBlocks.{headerWords}
 use Rattle.blocks.specs.HeaderLaws.{Natural, current-natural}
 use Rattle.blocks.specs.SaveHeader.{saveHeaderRefusal}
 use Rattle.blocks.specs.ContractLaws.{zeros-handed, header-saved}
@@ -23,7 +22,7 @@ past7 c = sym (c .before .idle-refusal .ensures) ∙ c .if1 .left
 current : (c : tie.Else1) → Natural (c .before .before .args .versions .current)
 current c = current-natural _ (none _ tt (past7 c) 2)
 
-fits : (c : tie.After-struct-told) → SFits w64 (c .before .before .before .args .versions .current)
+fits : (c : tie.After-struct-told) → SFits w64 (c .before .before .before .before .args .versions .current)
 fits c = search needs
 
 refuses : tie.Need-returns
@@ -33,16 +32,19 @@ refuses c =
     header-saved (sym (t .before .idle-refusal .ensures)) (zeros-handed _ (c .refused .ensures) (t .if1 .taken))
 
 few : tie.Need-cast-header-block
-few c = record { fits = omega (arith, lengths (c .before .before .before .args .table .now) (none _ tt (past7 (c .before)) 1) .few) }
+few c =
+    let counted = c .before in
+    record { fits = omega (arith, counted .slots-of .ensures, lengths _ (none _ tt (past7 (counted .before)) 1) .few) }
 
 small : tie.Need-cast-header-block-2
-small c = rw (plain _ (fits c)) (current (c .before) .positive, record { fits = omega (arith, current (c .before) .small) })
+small c = let n = current (c .before .before) in rw (plain _ (fits c)) (n .positive, record { fits = omega (arith, n .last) })
 
 saves : tie.Need-returns-2
-unfolding saveHeaderRefusal headerWords
+unfolding saveHeaderRefusal
 saves c =
     let told = c .before in
-    header-saved (past7 (told .before)) (record { refusal = refl; block = rw (plain _ (fits told)) at (c .header-block .ensures) })
+    let counted = told .before in
+    header-saved (past7 (counted .before)) (record { refusal = refl; block = rw (counted .slots-of .ensures, plain _ (fits told)) at (c .header-block .ensures) })
 
 pub save-header-spec : {M : Type 1} → statement M
-save-header-spec = tie.close (tie.spec (λ c κs. search needs) (λ c κs. search needs) refuses few small (λ c κs. search needs) saves)
+save-header-spec = tie.close (tie.spec (λ c κs. search needs) (λ c κs. search needs) refuses (λ c κs. search needs) few small (λ c κs. search needs) saves)

@@ -5,4 +5,4 @@ use Rattle.blocks.proofs.slot_blocks.no_such_block.Statement.{statement
 use Rattle.blocks.proofs.slot_blocks.no_such_block.Tie as tie
 
 pub no-such-block-spec : {M : Type 1} → statement M
-no-such-block-spec = tie.close (tie.spec (λ c. search needs) (λ c. search needs) (λ c. refl))
+no-such-block-spec = tie.close (tie.spec (λ c κs. search needs) (λ c. search needs) (λ c. search needs) (λ c. rw (c .slots-of .ensures)))

@@ -1,7 +1,7 @@
 -- `blocks::slot_blocks::save_slots` meets its contract: the words written so far are the number and the slots passed, none of which
 -- is broken; filler stands after them, and the check makes the block whole. Assumes nothing.
-use mathlib.Core.Path.{_≡_, refl, sym, ap, _∙_}
-use mathlib.Core.Bool.{Bool, false, not}
+use mathlib.Core.Path.{_≡_, refl, sym, _∙_}
+use mathlib.Core.Bool.{Bool, false}
 use mathlib.Core.List.{List, []}
 use Prim.Native.Nat.{ℕ, _+_, _≤_, _<_, _-_}
 use native.Mathlib.Omega.{arith}
@@ -38,10 +38,10 @@ loop-holds : tie.Need-loop-holds Inv-loop μ-loop
 loop-holds c = (omega arith, (c .write-word .ensures .after [] refl nothing-written, λ i h. absurd (omega arith)))
 
 -- the test was that of the slot at the place
-tested : (c : tie.After-well-formed Inv-loop μ-loop) → let l = c .before .before .before in
+tested : (c : tie.After-is-broken Inv-loop μ-loop) → let l = c .before .before .before in
     let a = l .before .before .before .args in
-    not (c .well-formed .result) ≡ brokenAt (a .table .now) (a .versions) (a .number) (l .loop .j)
-tested c = ap not (rw (c .before .slot-at .ensures) at (c .well-formed .ensures))
+    c .is-broken .result ≡ brokenAt (a .table .now) (a .versions) (a .number) (l .loop .j)
+tested c = rw (c .before .slot-at .ensures) at (c .is-broken .ensures)
 
 is6 : tie.Need-returns Inv-loop μ-loop
 is6 c =

@@ -1,4 +1,4 @@
--- `blocks_loads::header_fields::header_wrong` meets its contract: its four tests, each of words that were read. Assumes nothing.
+-- `blocks_loads::header_fields::header_wrong`: its four tests are the definition's, each of words that were read. Assumes nothing.
 use native.Mathlib.Omega.{arith}
 use mir.Syntax.{w64}
 use mir.ValLaws.{toZ-pos}
@@ -13,9 +13,13 @@ unfolding headerWrong any
 returns c =
     let current = c .before in
     let slots = current .before in
-    rw (toZ-pos w64 (current .word-at3 .result) (omega arith), current .word-at3 .ensures, slots .word-at2 .ensures, slots .before .word-at .ensures, c .is-nonzero .ensures)
+    let number = slots .before in
+    rw (toZ-pos w64 (current .word-at3 .result) (omega arith), current .word-at3 .ensures, slots .word-at2 .ensures, number .word-at .ensures, c .is-nonzero .ensures)
 
 pub header-wrong-spec : {M : Type 1} → statement M
 header-wrong-spec =
     tie.close
-    (tie.spec (λ c κs. search needs) (λ c κs. search needs) (λ c κs. search needs) (λ c. search needs) (λ c κs. search needs) returns)
+    (tie.spec (λ c κs. search needs)
+    (λ c κs. search needs) (λ c. search needs)
+    (λ c κs. search needs) (λ c. search needs)
+    (λ c κs. search needs) returns)
