@@ -1,4 +1,5 @@
--- `blocks_words::check_wrong` meets its contract. Assumes nothing.
+-- `blocks_words::check_wrong`: the word of the check and the total are the definition's, and so is their comparison.
+-- Assumes nothing.
 use borrow.Author.Needs.{needs}
 use Rattle.blocks_words.specs.Words.{checkWrong}
 use Rattle.blocks_words.proofs.check_wrong.Statement.{statement}

@@ -1,11 +1,16 @@
--- `blocks_words::put_word` meets its contract: four stores, of the digits one after another. Assumes nothing.
+-- `blocks_words::put_word`: four stores, of the word's digits in base 256 one after another, are `sets` of them all.
+-- Assumes nothing.
 use native.Mathlib.Numerals.{towards-suc}
 use borrow.Author.Needs.{needs}
 use Rattle.blocks_words.proofs.put_word.Statement.{statement}
 use Rattle.blocks_words.proofs.put_word.Tie as tie
 
 returns : tie.Need-returns
-returns c = simp (c .low-byte4 .ensures, c .before .low-byte3 .ensures, c .before .before .low-byte2 .ensures, c .before .before .before .low-byte .ensures, towards-suc)
+returns c =
+    let third = c .before in
+    let second = third .before in
+    let first = second .before in
+    simp (c .low-byte4 .ensures, third .low-byte3 .ensures, second .low-byte2 .ensures, first .low-byte .ensures, towards-suc)
 
 pub put-word-spec : {M : Type 1} → statement M
 put-word-spec =

@@ -1,4 +1,5 @@
--- `blocks_words::total_words` meets its contract: the sum is the total of the words passed, wrapping. Assumes nothing.
+-- `blocks_words::total_words`: the invariant is that the sum is the total of the words passed, wrapping; the words left are the
+-- measure. Assumes nothing.
 use mathlib.Core.Path.{_≡_}
 use Prim.Native.Nat.{_≤_, _-_, _%_}
 use native.Mathlib.Numerals.{add-one}
@@ -19,11 +20,13 @@ loop-again c = (omega arith, rw add-one (omega (arith, c .wrapping-add-u32 .ensu
 
 returns : tie.Need-returns Inv-loop μ-loop
 returns c =
-    let l = c .before in
-    let all : l .loop .i ≡ checkPlace = omega arith in
-    rw all at (l .loop .inv .1)
+    let loop = c .before .loop in
+    let all : loop .i ≡ checkPlace = omega arith in
+    rw all at (loop .inv .1)
 
 pub total-words-spec : {M : Type 1} → statement M
 total-words-spec =
     tie.close
-    (tie.spec Inv-loop μ-loop (λ c. search needs) (λ c κs. search needs) (λ c κs. search needs) (λ c. search needs) (λ c. search needs) loop-again returns)
+    (tie.spec Inv-loop μ-loop (λ c. search needs)
+    (λ c κs. search needs) (λ c κs. search needs)
+    (λ c. search needs) (λ c. search needs) loop-again returns)

@@ -1,4 +1,4 @@
--- `blocks_words::word_at` meets its contract: four bytes, put together as the number of their digits. Assumes nothing.
+-- `blocks_words::word_at`: four bytes are read, and the sum of them is the number of their digits in base 256. Assumes nothing.
 use borrow.Author.Needs.{needs}
 use Rattle.blocks_words.specs.Words.{wordAt}
 use Rattle.blocks_words.proofs.word_at.Statement.{statement}
@@ -16,6 +16,4 @@ word-at-spec =
     (λ c. search needs) (λ c. search needs) (λ c κs. search needs)
     (λ c. search needs) (λ c. search needs) (λ c κs. search needs)
     (λ c. search needs) (λ c. search needs) (λ c κs. search needs)
-    (λ c. search needs) (λ c. search needs) (λ c. search needs)
-    (λ c. search needs) (λ c. search needs) (λ c. search needs)
-    returns)
+    (λ c. search needs) (λ c. search needs) (λ c. search needs) (λ c. search needs) (λ c. search needs) (λ c. search needs) returns)

@@ -1,5 +1,5 @@
--- `blocks_words::longs::bits_of` meets its contract: a word from 0 up is its own bits, and one below 0 is what is left of all ones
--- without its complement. Assumes nothing.
+-- `blocks_words::longs::bits_of`: a word from 0 up is its own bits (`from-zero`), and one below 0 is what is left of all ones
+-- without its complement (`below-zero`). Assumes nothing.
 use mathlib.Core.Path.{_≡_}
 use native.Mathlib.Omega.{arith}
 use lib.IntN.{pos, negsuc, _-ℤ_}

@@ -1,4 +1,5 @@
--- `blocks_words::longs::long_at` meets its contract: two words, put together as the number of their digits. Assumes nothing.
+-- `blocks_words::longs::long_at`: the sum of its two words is the number of their digits, and `signed` answers its word.
+-- Assumes nothing.
 use mathlib.Core.Path.{_≡_, ap, _∙_}
 use mathlib.Core.List.{[], _∷_}
 use Prim.Native.Nat.{_+_, _*_}
@@ -14,10 +15,12 @@ use Rattle.blocks_words.proofs.longs.long_at.Tie as tie
 
 returns : tie.Need-returns
 returns c =
-    let high = c .before in
-    let a = high .before .before .before .before .before .args in
-    let joined : high .before .before .wide-half .result + high .wide-half2 .result * wordBase
-    ≡ number wordBase (wordAt (a .block .now) (a .i) ∷ wordAt (a .block .now) (a .i + 1) ∷ []) = omega arith in
+    let second = c .before in
+    let first = second .before .before in
+    let start = first .before .before .before in
+    let block = start .args .block .now in
+    let i = start .args .i in
+    let joined : first .wide-half .result + second .wide-half2 .result * wordBase ≡ number wordBase (wordAt block i ∷ wordAt block (i + 1) ∷ []) = omega arith in
     answered (c .signed .ok) (c .signed .ensures) ∙ ap (toZ w64) joined
 
 pub long-at-spec : {M : Type 1} → statement M
@@ -25,4 +28,5 @@ long-at-spec =
     tie.close
     (tie.spec (λ c κs. search needs) (λ c κs. search needs)
     (λ c. search needs) (λ c κs. search needs) (λ c κs. search needs)
-    (λ c. search needs) (λ c. search needs) (λ c κs. search needs) returns)
+    (λ c. search needs) (λ c. search needs) (λ c κs. search needs)
+    returns)

@@ -1,5 +1,5 @@
--- `blocks_words::longs::signed` meets its contract: bits below 2^63 are the word itself, and others the word that is below 0 by
--- their complement. Assumes nothing.
+-- `blocks_words::longs::signed`: bits below 2^63 are the word itself, and others the word that is below 0 by their complement
+-- (`high-bits`, `high-minus`). Assumes nothing.
 use mathlib.Core.Path.{sym, _∙_}
 use native.Mathlib.Omega.{arith}
 use borrow.Author.Needs.{needs}
@@ -17,4 +17,6 @@ returns-2 c = plain _ (sub-result c) ∙ high-minus _ (c .if1 .left) ∙ sym (hi
 pub signed-spec : {M : Type 1} → statement M
 signed-spec =
     tie.close
-    (tie.spec (λ c. search needs) (λ c. search needs) (λ c. search needs) (λ c. search needs) sub-result returns-2)
+    (tie.spec (λ c. search needs) (λ c. search needs)
+    (λ c. search needs)
+    (λ c. search needs) sub-result returns-2)

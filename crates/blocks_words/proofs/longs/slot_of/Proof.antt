@@ -1,4 +1,5 @@
--- `blocks_words::longs::slot_of` meets its contract: eight signed words, each at its place. Assumes nothing.
+-- `blocks_words::longs::slot_of`: eight signed words, each read at its place, are those of the slot by `slot-path`.
+-- Assumes nothing.
 use borrow.Author.Needs.{needs}
 use Rattle.table.specs.SlotLaws.{slot-path}
 use Rattle.blocks_words.specs.Longs.{blockSlot}

@@ -1,4 +1,4 @@
--- `blocks_words::longs::write_four` meets its contract: four signed words, each after the one before. Assumes nothing.
+-- `blocks_words::longs::write_four`: the law `then` puts each of the four signed words after the one before. Assumes nothing.
 use native.Mathlib.Omega.{arith}
 use borrow.Author.Needs.{needs}
 use Rattle.laws.specs.Bits.{plain}
@@ -11,7 +11,8 @@ returns c =
     let third = c .before .before in
     let second = third .before .before in
     let first = second .before .before in
-    let f = first .before .before .fits in
+    let start = first .before .before in
+    let f = start .fits in
     then (rw (plain _ (f .first)) at (first .write-long .ensures)) (omega arith)
     (then (rw (plain _ (f .second)) at (second .write-long2 .ensures)) (omega arith)
     (then (rw (plain _ (f .third)) at (third .write-long3 .ensures)) (omega arith) (rw (plain _ (f .fourth)) at (c .write-long4 .ensures))))
@@ -22,4 +23,5 @@ write-four-spec =
     (tie.spec (λ c κs. search needs)
     (λ c. search needs) (λ c κs. search needs)
     (λ c. search needs) (λ c κs. search needs)
-    (λ c. search needs) (λ c κs. search needs) returns)
+    (λ c. search needs) (λ c κs. search needs)
+    returns)

@@ -1,4 +1,5 @@
--- `blocks_words::longs::write_long` meets its contract: the low half is one word more, and the high half the next. Assumes nothing.
+-- `blocks_words::longs::write_long`: the low half is one word more, and the law `then` puts the high half after it.
+-- Assumes nothing.
 use mathlib.Core.Path.{ap, _∙_}
 use native.Mathlib.Omega.{arith}
 use mir.Syntax.{w64}
@@ -11,14 +12,17 @@ use Rattle.blocks_words.proofs.longs.write_long.Tie as tie
 
 returns : tie.Need-returns
 returns c =
-    let second = c .before in
-    let first = second .before .before in
-    let start = first .before .before .before in
-    let bits = start .bits-of .ensures ∙ ap (ofZ w64) (plain _ (start .before .fits .long)) in
-    then (rw (first .before .low-half .ensures, bits) at (first .write-word .ensures)) (omega arith) (rw (second .low-half2 .ensures, bits) at (c .write-word2 .ensures))
+    let high = c .before in
+    let written = high .before .before in
+    let low = written .before in
+    let split = low .before .before in
+    let bits = split .bits-of .ensures ∙ ap (ofZ w64) (plain _ (split .before .fits .long)) in
+    then (rw (low .low-half .ensures, bits) at (written .write-word .ensures)) (omega arith) (rw (high .low-half2 .ensures, bits) at (c .write-word2 .ensures))
 
 pub write-long-spec : {M : Type 1} → statement M
 write-long-spec =
     tie.close
-    (tie.spec (λ c κs. search needs) (λ c κs. search needs) (λ c κs. search needs)
-    (λ c. search needs) (λ c κs. search needs) (λ c κs. search needs) returns)
+    (tie.spec (λ c κs. search needs)
+    (λ c κs. search needs) (λ c κs. search needs)
+    (λ c. search needs) (λ c κs. search needs) (λ c κs. search needs)
+    returns)
