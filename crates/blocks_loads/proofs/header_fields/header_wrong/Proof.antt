@@ -1,4 +1,5 @@
--- `blocks_loads::header_fields::header_wrong`: its four tests are the definition's, each of words that were read. Assumes nothing.
+-- `blocks_loads::header_fields::header_wrong`: its four tests are the definition's, each of words that were read.
+-- Assumes nothing.
 use native.Mathlib.Omega.{arith}
 use mir.Syntax.{w64}
 use mir.ValLaws.{toZ-pos}

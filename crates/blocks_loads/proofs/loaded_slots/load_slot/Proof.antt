@@ -1,4 +1,5 @@
--- `blocks_loads::loaded_slots::load_slot`: the test of the place decides the definition's case, as it is or with the slot put. Assumes nothing.
+-- `blocks_loads::loaded_slots::load_slot`: the test of the place decides the definition's case: the table as it is, or with
+-- the slot put. Assumes nothing.
 use Prim.Native.Nat.{_+_}
 use native.Mathlib.Omega.{arith}
 use borrow.Author.Needs.{needs}

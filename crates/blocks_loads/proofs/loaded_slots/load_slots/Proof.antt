@@ -1,4 +1,5 @@
--- `blocks_loads::loaded_slots::load_slots` meets its contract: so many of the block's slots are written. Assumes nothing.
+-- `blocks_loads::loaded_slots::load_slots`: the invariant is that the table is that of the slots written so far (`loaded-more`),
+-- whose length is the same; the slots left are the measure. Assumes nothing.
 use mathlib.Core.Path.{_≡_, refl, ap, _∙_}
 use Prim.Native.Nat.{_≤_, _-_}
 use native.Mathlib.Omega.{arith}
@@ -16,29 +17,41 @@ Inv-loop table₀ number block written₀ table written = (written ≤ blockSlot
 abbrev μ-loop : tie.MeasureT-loop
 μ-loop table₀ number block written₀ table written = blockSlots - written
 
+-- the start from the loop, and the loop from a slot that is written in it
+abbrev start : tie.At-loop Inv-loop μ-loop → tie.Start Inv-loop μ-loop
+start c = c .before .before
+
+abbrev loop-of : tie.After-load-slot-arg Inv-loop μ-loop → tie.At-loop Inv-loop μ-loop
+loop-of c = c .before .before
+
 loop-holds : tie.Need-loop-holds Inv-loop μ-loop
 unfolding loadedTo
 loop-holds c = (omega arith, refl)
 
-kept : (c : tie.At-loop Inv-loop μ-loop) → length (c .loop .table) ≡ length (c .before .before .args .table .now)
+kept : (c : tie.At-loop Inv-loop μ-loop) → length (c .loop .table) ≡ length (start c .args .table .now)
 kept c = ap length (c .loop .inv .1) ∙ loaded-length _ _ _ (c .loop .written)
 
 load-slot-requires : tie.Need-load-slot-requires Inv-loop μ-loop
 load-slot-requires c κs =
-    let l = c .before .before in
-    let start = l .before .before in
-    (within-same _ _ _ (kept l) (start .pre .0), (start .pre .1, search needs))
+    let l = loop-of c in
+    (within-same _ _ _ (kept l) (start l .pre .0), (start l .pre .1, search needs))
 
 loop-again : tie.Need-loop-again Inv-loop μ-loop
-loop-again c = let l = c .before .before .before .before in (omega arith, loaded-more _ _ _ (l .loop .written) (l .loop .inv .1) (c .before .load-slot .ensures))
+loop-again c =
+    let slot = c .before in
+    let l = loop-of (slot .before) in
+    (omega arith, loaded-more _ _ _ (l .loop .written) (l .loop .inv .1) (slot .load-slot .ensures))
 
 returns : tie.Need-returns Inv-loop μ-loop
 returns c =
-    let l = c .before in
-    let all : l .loop .written ≡ blockSlots = omega arith in
-    rw all at (l .loop .inv .1)
+    let loop = c .before .loop in
+    let all : loop .written ≡ blockSlots = omega arith in
+    rw all at (loop .inv .1)
 
 pub load-slots-spec : {M : Type 1} → statement M
 load-slots-spec =
     tie.close
-    (tie.spec Inv-loop μ-loop loop-holds load-slot-requires (λ c. search needs) (λ c. search needs) loop-again (λ c. kept (c .before)) returns)
+    (tie.spec Inv-loop μ-loop loop-holds
+    load-slot-requires
+    (λ c. search needs) (λ c. search needs) loop-again
+    (λ c. kept (c .before)) returns)

@@ -1,4 +1,5 @@
--- `blocks_loads::loaded_slots::slot_block_wrong` meets its contract: its three tests. Assumes nothing.
+-- `blocks_loads::loaded_slots::slot_block_wrong`: its three tests are the definition's, of word 0, the filler and the slots.
+-- Assumes nothing.
 use borrow.Author.Needs.{needs}
 use Rattle.laws.specs.Tests.{any}
 use Rattle.blocks_loads.specs.LoadedSlots.{slotBlockWrong}
@@ -7,7 +8,13 @@ use Rattle.blocks_loads.proofs.loaded_slots.slot_block_wrong.Tie as tie
 
 returns : tie.Need-returns
 unfolding slotBlockWrong any
-returns c = rw (c .before .before .word-at .ensures, c .before .is-nonzero .ensures, c .some-slot-wrong .ensures)
+returns c =
+    let filler = c .before in
+    let number = filler .before in
+    rw (number .word-at .ensures, filler .is-nonzero .ensures, c .some-slot-wrong .ensures)
 
 pub slot-block-wrong-spec : {M : Type 1} → statement M
-slot-block-wrong-spec = tie.close (tie.spec (λ c κs. search needs) (λ c. search needs) (λ c κs. search needs) (λ c κs. search needs) returns)
+slot-block-wrong-spec =
+    tie.close
+    (tie.spec (λ c κs. search needs) (λ c. search needs)
+    (λ c κs. search needs) (λ c κs. search needs) returns)

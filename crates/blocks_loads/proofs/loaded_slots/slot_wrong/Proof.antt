@@ -1,4 +1,5 @@
--- `blocks_loads::loaded_slots::slot_wrong`: the test of the place decides the definition's case, well formed or all zeros. Assumes nothing.
+-- `blocks_loads::loaded_slots::slot_wrong`: the test of the place decides the definition's case, well formed or all zeros.
+-- Assumes nothing.
 use borrow.Author.Needs.{needs}
 use borrow.Author.Tests.{lt-ltb, le-ltb}
 use Rattle.blocks_loads.proofs.loaded_slots.slot_wrong.Statement.{statement}

@@ -1,4 +1,5 @@
--- `blocks_loads::loaded_slots::some_slot_wrong` meets its contract: no slot passed is wrong. Assumes nothing.
+-- `blocks_loads::loaded_slots::some_slot_wrong`: the invariant is that no slot passed is wrong; the slots left are the measure.
+-- Assumes nothing.
 use mathlib.Core.Path.{_≡_, sym}
 use mathlib.Core.Bool.{false}
 use Prim.Native.Nat.{ℕ, _<_, _-_}
@@ -16,14 +17,19 @@ Inv-loop table versions number block tested₀ tested = (i : ℕ) → i < tested
 abbrev μ-loop : tie.MeasureT-loop
 μ-loop table versions number block tested₀ tested = blockSlots - tested
 
+-- the loop that a slot was tested in
+abbrev loop-of : tie.After-slot-wrong Inv-loop μ-loop → tie.At-loop Inv-loop μ-loop
+loop-of c = c .before .before
+
 returns : tie.Need-returns Inv-loop μ-loop
-returns c = sym (some-yes _ _ (c .before .before .before .loop .tested) (omega arith) (rw (c .before .slot-wrong .ensures) at (c .if1 .taken)))
+returns c = let slot = c .before in sym (some-yes _ _ (loop-of slot .loop .tested) (omega arith) (rw (slot .slot-wrong .ensures) at (c .if1 .taken)))
 
 loop-again : tie.Need-loop-again Inv-loop μ-loop
 loop-again c =
-    let l = c .before .before .before in
+    let slot = c .before in
+    let l = loop-of slot in
     let a = l .before .before .args in
-    below-next {p = slotWrong (a .table .now) (a .versions) (a .number) (a .block .now)} (l .loop .inv) (rw (c .before .slot-wrong .ensures) at (c .if1 .left))
+    below-next {p = slotWrong (a .table .now) (a .versions) (a .number) (a .block .now)} (l .loop .inv) (rw (slot .slot-wrong .ensures) at (c .if1 .left))
 
 returns-2 : tie.Need-returns-2 Inv-loop μ-loop
 returns-2 c = sym (all-fail _ _ (λ i h. c .before .loop .inv i (omega arith)))
@@ -31,5 +37,6 @@ returns-2 c = sym (all-fail _ _ (λ i h. c .before .loop .inv i (omega arith)))
 pub some-slot-wrong-spec : {M : Type 1} → statement M
 some-slot-wrong-spec =
     tie.close
-    (tie.spec Inv-loop μ-loop (λ c i h. absurd (omega arith)) (λ c κs. search needs) returns
+    (tie.spec Inv-loop μ-loop (λ c i h. absurd (omega arith))
+    (λ c κs. search needs) returns
     (λ c. search needs) (λ c. search needs) loop-again returns-2)
