@@ -1,4 +1,4 @@
--- `blocks::refused` meets its contract: the number and the zeros are those of the struct. Assumes nothing.
+-- `blocks::refused`: the number and the zeros are those of the struct. Assumes nothing.
 use mathlib.Core.Path.{refl}
 use Rattle.blocks.proofs.refused.Statement.{statement}
 use Rattle.blocks.proofs.refused.Tie as tie

@@ -1,4 +1,4 @@
--- `blocks::save_block` meets its contract: the refusal of the tests before 6, or what is handed out of its slots.
+-- `blocks::save_block`: the refusal of the tests before 6 (`stop`), or past them (`pass`) what is handed out of its slots.
 -- Assumes nothing.
 use mathlib.Core.Path.{_≡_, sym, _∙_}
 use borrow.Author.Needs.{needs}
@@ -17,14 +17,18 @@ past5 c = sym (c .before .block-refusal .ensures) ∙ c .if1 .left
 refuses : tie.Need-returns
 unfolding saveBlockRefusal
 refuses c =
-    let t = c .before in
+    let nonzero = c .before in
+    let asked = nonzero .before in
     block-saved
-    (stop (blockTests _ _ (t .before .before .args .number)) _ _ (sym (t .before .block-refusal .ensures)) (t .if1 .taken))
-    (zeros-handed _ (c .refused .ensures) (t .if1 .taken))
+    (stop (blockTests _ _ (asked .before .args .number)) _ _ (sym (asked .block-refusal .ensures)) (nonzero .if1 .taken))
+    (zeros-handed _ (c .refused .ensures) (nonzero .if1 .taken))
 
 hands : tie.Need-returns-2
 unfolding saveBlockRefusal
-hands c = block-saved (pass (blockTests _ _ (c .before .before .before .args .number)) _ tt (past5 (c .before))) (c .save-slots .ensures)
+hands c =
+    let allowed = c .before in
+    let start = allowed .before .before in
+    block-saved (pass (blockTests _ _ (start .args .number)) _ tt (past5 allowed)) (c .save-slots .ensures)
 
 requires : tie.Need-save-slots-requires
 requires c κs = (within _ _ _ (past5 c), none _ tt (past5 c) 2)

@@ -1,4 +1,4 @@
--- `blocks::save_header` meets its contract: the refusal of its tests, or the block of a header whose words fit.
+-- `blocks::save_header`: the refusal of its tests or, past them, the block of a header whose slots and current fit their words.
 -- Assumes nothing.
 use mathlib.Core.Path.{_≡_, refl, sym, _∙_}
 use native.Mathlib.Omega.{arith}
@@ -16,35 +16,45 @@ use Rattle.blocks.specs.ContractLaws.{zeros-handed, header-saved}
 use Rattle.blocks.proofs.save_header.Statement.{statement}
 use Rattle.blocks.proofs.save_header.Tie as tie
 
-past7 : (c : tie.Else1) → first (idleTests (c .before .before .args .table .now) (c .before .before .args .versions)) ≡ 0
+-- the start from the place past the tests, and that place from the one where current is read
+abbrev start : tie.Else1 → tie.Start
+start c = c .before .before
+
+abbrev past-tests : tie.After-struct-told → tie.Else1
+past-tests c = c .before .before
+
+past7 : (c : tie.Else1) → let a = start c .args in first (idleTests (a .table .now) (a .versions)) ≡ 0
 past7 c = sym (c .before .idle-refusal .ensures) ∙ c .if1 .left
 
-current : (c : tie.Else1) → Natural (c .before .before .args .versions .current)
+current : (c : tie.Else1) → Natural (start c .args .versions .current)
 current c = current-natural _ (none _ tt (past7 c) 2)
 
-fits : (c : tie.After-struct-told) → SFits w64 (c .before .before .before .before .args .versions .current)
+fits : (c : tie.After-struct-told) → SFits w64 (start (past-tests c) .args .versions .current)
 fits c = search needs
 
 refuses : tie.Need-returns
 unfolding saveHeaderRefusal
 refuses c =
-    let t = c .before in
-    header-saved (sym (t .before .idle-refusal .ensures)) (zeros-handed _ (c .refused .ensures) (t .if1 .taken))
+    let nonzero = c .before in
+    header-saved (sym (nonzero .before .idle-refusal .ensures)) (zeros-handed _ (c .refused .ensures) (nonzero .if1 .taken))
 
 few : tie.Need-cast-header-block
-few c =
-    let counted = c .before in
-    record { fits = omega (arith, counted .slots-of .ensures, lengths _ (none _ tt (past7 (counted .before)) 1) .few) }
+few c = record { fits = omega (arith, c .before .slots-of .ensures, lengths _ (none _ tt (past7 (past-tests c)) 1) .few) }
 
 small : tie.Need-cast-header-block-2
-small c = let n = current (c .before .before) in rw (plain _ (fits c)) (n .positive, record { fits = omega (arith, n .last) })
+small c = let n = current (past-tests c) in rw (plain _ (fits c)) (n .positive, record { fits = omega (arith, n .last) })
 
 saves : tie.Need-returns-2
 unfolding saveHeaderRefusal
 saves c =
     let told = c .before in
     let counted = told .before in
-    header-saved (past7 (counted .before)) (record { refusal = refl; block = rw (counted .slots-of .ensures, plain _ (fits told)) at (c .header-block .ensures) })
+    header-saved (past7 (past-tests told)) (record { refusal = refl; block = rw (counted .slots-of .ensures, plain _ (fits told)) at (c .header-block .ensures) })
 
 pub save-header-spec : {M : Type 1} → statement M
-save-header-spec = tie.close (tie.spec (λ c κs. search needs) (λ c κs. search needs) refuses (λ c κs. search needs) few small (λ c κs. search needs) saves)
+save-header-spec =
+    tie.close
+    (tie.spec (λ c κs. search needs)
+    (λ c κs. search needs) refuses
+    (λ c κs. search needs)
+    few small (λ c κs. search needs) saves)

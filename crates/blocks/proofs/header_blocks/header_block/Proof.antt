@@ -1,5 +1,5 @@
--- `blocks::header_blocks::header_block` meets its contract: word 0 stands, slots and current follow it, filler stands after them,
--- and the check makes the block whole. Assumes nothing.
+-- `blocks::header_blocks::header_block`: word 0 stands already, slots and current follow it, and with filler after them the
+-- check makes the block whole (`header-whole`). Assumes nothing.
 use mathlib.Core.Path.{refl, _∙_}
 use mathlib.Core.List.{[]}
 use native.Mathlib.Omega.{arith}

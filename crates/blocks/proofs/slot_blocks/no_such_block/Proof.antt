@@ -1,5 +1,4 @@
--- `blocks::slot_blocks::no_such_block` meets its contract: its one expression is the definition's. Assumes nothing.
-use mathlib.Core.Path.{refl}
+-- `blocks::slot_blocks::no_such_block`: over the number of slots its one expression is the definition's. Assumes nothing.
 use borrow.Author.Needs.{needs}
 use Rattle.blocks.proofs.slot_blocks.no_such_block.Statement.{statement}
 use Rattle.blocks.proofs.slot_blocks.no_such_block.Tie as tie
