@@ -1,4 +1,4 @@
--- Load header: its refusals in the document's order, its answer, and the contract that says so. Assumes nothing.
+-- Load header: its refusals in the rules' order, its answer, and the contract that says so. Assumes nothing.
 use mathlib.Core.Path.{_≡_, sym, _∙_}
 use mathlib.Core.Bool.{Bool}
 use mathlib.Core.List.{List}

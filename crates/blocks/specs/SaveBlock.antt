@@ -1,4 +1,4 @@
--- Save block: its refusals in the document's order, the block that it hands out, and the contract that says so.
+-- Save block: its refusals in the rules' order, the block that it hands out, and the contract that says so.
 -- Assumes nothing.
 use mathlib.Core.Path.{_≡_, sym, _∙_}
 use mathlib.Core.Bool.{Bool}

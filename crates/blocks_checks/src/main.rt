@@ -1,4 +1,4 @@
-// The figures of document 01 on blocks that are not marked P: each save's refusal and the check of its block, a line each.
+// The figures of RULES.md on blocks: each save's refusal and the check of its block, a line each.
 use blocks::Saved;
 ghost use Prim.Native.Nat.{_<_};
 use libc::STDOUT_FILENO;

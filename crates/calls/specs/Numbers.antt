@@ -1,4 +1,4 @@
--- The numbers of each answer, as document 01 gives them: the refusal first, 0 for none, then the answer's in order. A refusal
+-- The numbers of each answer, as the rules give them: the refusal first, 0 for none, then the answer's in order. A refusal
 -- is its number, and zeros elsewhere. Assumes nothing.
 use mathlib.Core.List.{List, [], _∷_}
 use lib.IntN.{ℤ, pos}

@@ -1,4 +1,4 @@
--- Delete: its refusals in the document's order, its answer, the words that it leaves, and the contract that says so.
+-- Delete: its refusals in the rules' order, its answer, the words that it leaves, and the contract that says so.
 -- Assumes nothing.
 use mathlib.Core.Path.{_≡_, sym, _∙_}
 use mathlib.Core.Bool.{Bool}

@@ -1,4 +1,4 @@
--- Document 01's figures on blocks, which it does not mark P, computed: the checks of saved blocks, and that no block is saved
+-- The figures of RULES.md on blocks, computed: the checks of saved blocks, and that no block is saved
 -- while a run is active. The program `checks` runs the same on the code. Assumes nothing.
 use mathlib.Core.Path.{_≡_, refl}
 use mathlib.Core.List.{List, [], _∷_, _++_}

@@ -1,5 +1,5 @@
--- The cases of document 01's 'Figures to meet' that are marked P, each as a state, the calls, the numbers expected of each call,
--- and the words and the record expected after; those that the document does not have say that they are ours. Keys: San Jose
+-- The cases of RULES.md, Figures, each as a state, the calls, the numbers expected of each call,
+-- and the words and the record expected after; those that the rules do not have say that they are ours. Keys: San Jose
 -- golf 1, Berkeley racquetball 2, Novato rollerblades 3; second key is the date, total two is 0. Assumes nothing.
 use mathlib.Core.Bool.{true, false}
 use mathlib.Core.List.{List, [], _∷_, _++_}

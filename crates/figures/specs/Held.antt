@@ -1,4 +1,4 @@
--- Fields of demand 3's statement at computed histories of a table of one slot: what document 01's wrong builds would break, and a
+-- Fields of demand 3's statement at computed histories of a table of one slot: what the wrong builds of RULES.md would break, and a
 -- wrong tally. They follow from `demand3` too; here they are computed from the definitions alone, so that a wrong build in these
 -- makes one of them false (`.ci/wrong-builds`). Assumes nothing.
 use mathlib.Core.Path.{_≡_, refl, sym, ap, _∙_}

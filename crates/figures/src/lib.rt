@@ -1,1 +1,1 @@
-// No code: the figures of document 01 that are marked P, proved by computation in specs/.
+// No code: the figures of RULES.md, proved by computation in specs/.

@@ -1,4 +1,4 @@
--- Roll-up: its refusals in the document's order, its answer, and the contract that says so. What is counted and summed of a
+-- Roll-up: its refusals in the rules' order, its answer, and the contract that says so. What is counted and summed of a
 -- list of rows is `tally`, which knows no table. Assumes nothing.
 use mathlib.Core.Path.{_≡_, sym, _∙_}
 use mathlib.Core.Bool.{Bool, cond}

@@ -1,4 +1,4 @@
--- The laws of Table 1, one for each sentence of the document: each is one cell. And one of totals: those of a row that is
+-- The laws of Table 1, one for each sentence of the rules: each is one cell. And one of totals: those of a row that is
 -- shown of a well formed slot are lawful, since both its pairs are. Assumes nothing.
 use mathlib.Core.Path.{_≡_, refl}
 use mathlib.Core.Bool.{true, false}

@@ -1,4 +1,4 @@
-// The program `steps` of document 01, over its session there.
+// The program `steps`, over the session of docs/session.txt.
 fn main() {
     steps_io::run();
 }

@@ -65,11 +65,9 @@ fn end_line(table: &mut [i64], line: &[u8], buffer: &mut [u8], progress: Progres
     let kept = progress.kept;
     let turn = steps_answers::answer(table, before, &line[..kept], buffer, progress.place);
     let versions = turn.versions;
-    // A local, so that the field below stands once in this file, where must-fail/line_begins_with_the_last.edit changes it.
-    let none: usize = 0;
     Progress {
         versions: versions,
-        kept: none,
+        kept: 0,
         place: turn.place,
     }
 }

@@ -1,4 +1,4 @@
--- Open, begin and commit: the refusals of each in the document's order, its answer, the record that it leaves, and the
+-- Open, begin and commit: the refusals of each in the rules' order, its answer, the record that it leaves, and the
 -- contract that says so. Each contract allows one outcome. Assumes nothing.
 use mathlib.Core.Path.{_≡_}
 use mathlib.Core.Bool.{Bool, true, false}
