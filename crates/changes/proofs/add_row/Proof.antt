@@ -15,9 +15,12 @@ use Rattle.changes.specs.Looked.{Looked, looked, looked-live}
 use Rattle.changes.proofs.add_row.Statement.{statement}
 use Rattle.changes.proofs.add_row.Tie as tie
 
--- the start from what was looked up, and from what is past refusals 6 and 10
+-- the search and the start from what was looked up, and from what is past refusals 6 and 10
+abbrev searched : tie.After-is-broken → tie.After-key-slot
+searched c = c .before .before .before
+
 abbrev start : tie.After-is-broken → tie.Start
-start c = c .before .before .before .before .before
+start c = searched c .before .before
 
 abbrev s6 : tie.Else1 → tie.Start
 s6 c = start (c .before)
@@ -26,10 +29,10 @@ abbrev s10 : tie.Else2 → tie.Start
 s10 c = s6 (c .before .before)
 
 look : (c : tie.After-is-broken) → let a = start c .args in
-    Looked (a .table .now) (a .versions) (a .key1) (a .key2) (c .before .before .before .key-slot .result) (c .before .slot-at .result) (c .is-broken .result)
+    Looked (a .table .now) (a .versions) (a .key1) (a .key2) (searched c .key-slot .result) (c .before .slot-at .result) (c .is-broken .result)
 look c =
     let f = start c .fits in
-    looked (f .key1) (f .key2) (c .before .before .before .key-slot .ensures) (c .before .slot-at .ensures) (c .is-broken .ensures)
+    looked (f .key1) (f .key2) (searched c .key-slot .ensures) (c .before .slot-at .ensures) (c .is-broken .ensures)
 
 is6 : tie.Need-returns
 is6 c = record { leaves = refused (hit _ (look (c .before) .test6 ∙ c .if1 .taken)) (omega arith) }
@@ -49,7 +52,7 @@ past10 c = live10 (c .before) ∙ c .if2 .left
 -- the slot that is taken
 taken : (c : tie.After-slot-to-take) → let a = s10 (c .before .before) .args in
     c .slot-to-take .result ≡ insertSlot (a .table .now) (a .versions) (a .key1) (a .key2)
-taken c = rw (look (c .before .before .before .before .before) .number) at (c .slot-to-take .ensures)
+taken c = let not-live = c .before .before in rw (look (not-live .before .before .before) .number) at (c .slot-to-take .ensures)
 
 is12 : tie.Need-returns-3
 is12 c =

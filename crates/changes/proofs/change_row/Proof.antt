@@ -16,9 +16,12 @@ use Rattle.changes.specs.Looked.{Looked, looked, looked-live}
 use Rattle.changes.proofs.change_row.Statement.{statement}
 use Rattle.changes.proofs.change_row.Tie as tie
 
--- the start from what was looked up, and from what is past refusals 6 and 11
+-- the search and the start from what was looked up, and from what is past refusals 6 and 11
+abbrev searched : tie.After-is-broken → tie.After-key-slot
+searched c = c .before .before .before
+
 abbrev start : tie.After-is-broken → tie.Start
-start c = c .before .before .before .before .before
+start c = searched c .before .before
 
 abbrev s6 : tie.Else1 → tie.Start
 s6 c = start (c .before)
@@ -27,10 +30,10 @@ abbrev s11 : tie.Else2 → tie.Start
 s11 c = s6 (c .before .before)
 
 look : (c : tie.After-is-broken) → let a = start c .args in
-    Looked (a .table .now) (a .versions) (a .key1) (a .key2) (c .before .before .before .key-slot .result) (c .before .slot-at .result) (c .is-broken .result)
+    Looked (a .table .now) (a .versions) (a .key1) (a .key2) (searched c .key-slot .result) (c .before .slot-at .result) (c .is-broken .result)
 look c =
     let f = start c .fits in
-    looked (f .key1) (f .key2) (c .before .before .before .key-slot .ensures) (c .before .slot-at .ensures) (c .is-broken .ensures)
+    looked (f .key1) (f .key2) (searched c .key-slot .ensures) (c .before .slot-at .ensures) (c .is-broken .ensures)
 
 is6 : tie.Need-returns
 is6 c = record { leaves = refused (hit _ (look (c .before) .test6 ∙ c .if1 .taken)) (omega arith) }
