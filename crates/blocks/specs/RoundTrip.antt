@@ -17,8 +17,8 @@ use Rattle.laws.specs.LowestLaws.{none-passes}
 use Rattle.versions.specs.declared.VersionRecord.{VersionRecord}
 use Rattle.table.specs.Slots.{badTable, slots, slotAt}
 use Rattle.table.specs.SlotLaws.{slotAt-past, same-length, by-slots}
-use Rattle.table.specs.Formed.{broken}
-use Rattle.table.specs.FormedLaws.{empty-zeros}
+use Rattle.table_forms.specs.Formed.{broken}
+use Rattle.table_forms.specs.FormedLaws.{empty-zeros}
 use Rattle.blocks_words.specs.Words.{numberPlace, blockOf}
 use Rattle.blocks_words.specs.WordLaws.{block-length, block-word, check-right, filler-zero}
 use Rattle.blocks_words.specs.Longs.{blockSlots}

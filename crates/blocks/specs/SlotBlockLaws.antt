@@ -25,7 +25,7 @@ use Rattle.versions.specs.declared.VersionRecord.{VersionRecord}
 use Rattle.table.specs.declared.Slot.{Slot}
 use Rattle.table.specs.Slots.{slotWords, badTable, wordsOf, word, slotAt, empty}
 use Rattle.table.specs.SlotLaws.{lengths, word-at}
-use Rattle.table.specs.Formed.{broken}
+use Rattle.table_forms.specs.Formed.{broken}
 use Rattle.blocks_words.specs.Words.{checkPlace, byteBase, wordBytes, wordBase, blockOf, wordAt}
 use Rattle.blocks_words.specs.Groups.{groups-length, groups-at, groups-below, append-below, zeros-below}
 use Rattle.blocks_words.specs.WordLaws.{BlockWords, block-word}

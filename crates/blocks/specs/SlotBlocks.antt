@@ -9,7 +9,7 @@ use lib.ListN.{replicate}
 use Rattle.laws.specs.Lowest.{some}
 use Rattle.versions.specs.declared.VersionRecord.{VersionRecord}
 use Rattle.table.specs.Slots.{wordsOf, slotAt}
-use Rattle.table.specs.Formed.{broken}
+use Rattle.table_forms.specs.Formed.{broken}
 use Rattle.blocks_words.specs.Longs.{blockSlots, halvesOf}
 use Rattle.blocks_loads.specs.LoadedSlots.{blocks, firstSlot, slotFillerWords}
 

@@ -37,7 +37,7 @@ pub fn save_slots(table: &[i64], versions: VersionRecord, number: usize) -> Save
     let mut j: usize = 0;
     while j < BLOCK_SLOTS {
         let x = table::slot_at(table, from + j);
-        if table::is_broken(x, versions) {
+        if table_forms::is_broken(x, versions) {
             return crate::refused(refusals::BROKEN_SLOT);
         }
         check = longs::write_slot(&mut block, j, x, check);

@@ -10,7 +10,7 @@ use Rattle.laws.specs.Tests.{any}
 use Rattle.laws.specs.Lowest.{some}
 use Rattle.versions.specs.declared.VersionRecord.{VersionRecord}
 use Rattle.table.specs.Slots.{badTable, slots, putSlot}
-use Rattle.table.specs.Formed.{allZeros, wellFormed}
+use Rattle.table_forms.specs.Formed.{allZeros, wellFormed}
 use Rattle.blocks_words.specs.Words.{numberPlace, wordAt, nonzero}
 use Rattle.blocks_words.specs.Longs.{blockSlots, blockSlot}
 

@@ -27,9 +27,9 @@ fn slot_wrong(table: &[i64], versions: VersionRecord, number: usize, block: &[u8
 {
     let x = longs::slot_of(block, j);
     if BLOCK_SLOTS * (number - 1) + j < table::slots_of(table) {
-        return table::is_broken(x, versions);
+        return table_forms::is_broken(x, versions);
     }
-    !table::all_zeros(x)
+    !table_forms::all_zeros(x)
 }
 
 // Whether some slot of a block is.

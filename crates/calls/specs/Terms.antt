@@ -3,5 +3,5 @@
 pub use Rattle.laws.specs.Order.{eqZ}
 pub use Rattle.versions.specs.Record.{freshRecord}
 pub use Rattle.table.specs.Slots.{mostSlots, freshTable}
-pub use Rattle.table.specs.Totals.{unlawful}
+pub use Rattle.table_forms.specs.Totals.{unlawful}
 pub use Rattle.reads.specs.RollUp.{tally, sums}

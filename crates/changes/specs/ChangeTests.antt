@@ -12,8 +12,8 @@ use Rattle.table.specs.Slots.{badTable, slots}
 use lib.Dec.{ltb}
 use Rattle.table_searches.specs.Keys.{keySlot, keyLive, keyed}
 use Rattle.table_searches.specs.Free.{freeSlot}
-use Rattle.table.specs.Totals.{unlawful}
-use Rattle.table.specs.Formed.{broken}
+use Rattle.table_forms.specs.Totals.{unlawful}
+use Rattle.table_forms.specs.Formed.{broken}
 
 -- 1, 2, 8: every change begins with these
 abbrev pub runningTests : List ℤ → VersionRecord → List (Bool × ℕ)

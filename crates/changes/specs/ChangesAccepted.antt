@@ -16,12 +16,12 @@ use Rattle.versions.specs.Record.{badRecord, runNumber}
 use Rattle.versions.specs.RecordLaws.{sound}
 use Rattle.table.specs.declared.Slot.{Slot}
 use Rattle.table.specs.Slots.{slots, slotAt, putSlot, empty}
-use Rattle.table.specs.Operations.{deleteOperation, live}
-use Rattle.table.specs.OperationLaws.{live-cases}
-use Rattle.table.specs.TotalLaws.{given}
-use Rattle.table.specs.Totals.{Given}
-use Rattle.table.specs.Formed.{wellFormed}
-use Rattle.table.specs.FormedLaws.{Used, live-used, formed-cases, dead-deleted}
+use Rattle.table_forms.specs.Operations.{deleteOperation, live}
+use Rattle.table_forms.specs.OperationLaws.{live-cases}
+use Rattle.table_forms.specs.TotalLaws.{given}
+use Rattle.table_forms.specs.Totals.{Given}
+use Rattle.table_forms.specs.Formed.{wellFormed}
+use Rattle.table_forms.specs.FormedLaws.{Used, live-used, formed-cases, dead-deleted}
 use Rattle.table_searches.specs.Keys.{hasKey, keySlot, keyed, keyLive}
 use Rattle.table_searches.specs.KeyLaws.{Keyed, has-key, keySlot-is, empty-keyless, absent-empty, absent-nowhere, live-placed}
 use Rattle.table_searches.specs.Free.{free, freeSlot}

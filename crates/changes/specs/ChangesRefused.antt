@@ -19,10 +19,10 @@ use Rattle.versions.specs.Record.{badRecord, runNumber}
 use Rattle.versions.specs.RecordLaws.{sound}
 use Rattle.table.specs.declared.Slot.{Slot}
 use Rattle.table.specs.Slots.{badTable, slots, slotAt}
-use Rattle.table.specs.Operations.{live}
-use Rattle.table.specs.Totals.{unlawful}
-use Rattle.table.specs.Formed.{wellFormed, broken}
-use Rattle.table.specs.FormedLaws.{dead-deleted}
+use Rattle.table_forms.specs.Operations.{live}
+use Rattle.table_forms.specs.Totals.{unlawful}
+use Rattle.table_forms.specs.Formed.{wellFormed, broken}
+use Rattle.table_forms.specs.FormedLaws.{dead-deleted}
 use Rattle.table_searches.specs.Keys.{keySlot, keyed, keyLive}
 use Rattle.table_searches.specs.Free.{free, freeSlot}
 use Rattle.table_searches.specs.FreeLaws.{freeSlot-is, busy}

@@ -13,12 +13,12 @@ use Rattle.versions.specs.Record.{badRecord, runNumber, lastRun}
 use Rattle.versions.specs.RecordLaws.{sound}
 use Rattle.table.specs.declared.Slot.{Slot}
 use Rattle.table.specs.Slots.{empty}
-use Rattle.table.specs.Operations.{insertOperation, updateOperation, deleteOperation, live}
-use Rattle.table.specs.OperationLaws.{live-cases, live-insert, live-update, live-same}
-use Rattle.table.specs.TotalLaws.{lawful-zero}
-use Rattle.table.specs.Totals.{Given}
-use Rattle.table.specs.Formed.{wellFormed}
-use Rattle.table.specs.FormedLaws.{Used, used-formed, empty-formed}
+use Rattle.table_forms.specs.Operations.{insertOperation, updateOperation, deleteOperation, live}
+use Rattle.table_forms.specs.OperationLaws.{live-cases, live-insert, live-update, live-same}
+use Rattle.table_forms.specs.TotalLaws.{lawful-zero}
+use Rattle.table_forms.specs.Totals.{Given}
+use Rattle.table_forms.specs.Formed.{wellFormed}
+use Rattle.table_forms.specs.FormedLaws.{Used, used-formed, empty-formed}
 use Rattle.table_searches.specs.KeyLaws.{Keyed}
 use Rattle.reads.specs.declared.Seen.{Seen}
 use Rattle.reads.specs.declared.Seen.the-variants.{Row, NoRow, Refused}

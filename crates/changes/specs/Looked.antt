@@ -11,8 +11,8 @@ use Rattle.laws.specs.Bits.{plain}
 use Rattle.versions.specs.declared.VersionRecord.{VersionRecord}
 use Rattle.table.specs.declared.Slot.{Slot}
 use Rattle.table.specs.Slots.{slotAt}
-use Rattle.table.specs.Operations.{live}
-use Rattle.table.specs.Formed.{broken}
+use Rattle.table_forms.specs.Operations.{live}
+use Rattle.table_forms.specs.Formed.{broken}
 use Rattle.table_searches.specs.Keys.{keySlot, keyed, keyLive}
 
 pub record Looked (t : List ℤ) (v : VersionRecord) (key1 key2 : ℤ) (k : ℕ) (x : Slot) (b : Bool) : Type 0 where

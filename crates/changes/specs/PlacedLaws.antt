@@ -12,7 +12,7 @@ use Rattle.versions.specs.declared.VersionRecord.{VersionRecord}
 use Rattle.versions.specs.Record.{runNumber}
 use Rattle.table.specs.declared.Slot.{Slot}
 use Rattle.table.specs.Slots.{badTable, putSlot}
-use Rattle.table.specs.Formed.{broken}
+use Rattle.table_forms.specs.Formed.{broken}
 use Rattle.table_searches.specs.Keys.{keySlot, keyed}
 use Rattle.table_searches.specs.KeyLaws.{live-keyed}
 use Rattle.changes.specs.declared.Placed.{Placed}

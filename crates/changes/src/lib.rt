@@ -7,7 +7,7 @@ ghost use Prim.Native.Nat.{_<_};
 ghost use lib.Dec.{ltb};
 ghost use Rattle.versions.specs.Record.{badRecord};
 ghost use Rattle.table.specs.Slots.{badTable, slots};
-ghost use Rattle.table.specs.Formed.{broken};
+ghost use Rattle.table_forms.specs.Formed.{broken};
 ghost use Rattle.table_searches.specs.Free.{freeSlot};
 ghost use Rattle.changes.specs.ChangeTests.{runningRefusal, givenRefusal};
 ghost use Rattle.changes.specs.Insert.{InsertContract};
@@ -62,7 +62,7 @@ fn given_refusal(table: &[i64], versions: VersionRecord, total1: i64, total2: i6
     if refusal != 0 {
         return refusal;
     }
-    if table::is_unlawful(total1, total2) {
+    if table_forms::is_unlawful(total1, total2) {
         return refusals::BAD_TOTAL;
     }
     0
@@ -105,10 +105,10 @@ fn add_row(
 {
     let k = table_searches::key_slot(table, key1, key2);
     let x = table::slot_at(table, k);
-    if table::is_broken(x, versions) {
+    if table_forms::is_broken(x, versions) {
         return Placed::Refused(refusals::BROKEN_SLOT);
     }
-    if table::is_live(x) {
+    if table_forms::is_live(x) {
         return Placed::Refused(refusals::KEY_LIVE);
     }
     let taken = slot_to_take(table, versions, k);
@@ -138,10 +138,10 @@ fn change_row(
 {
     let k = table_searches::key_slot(table, key1, key2);
     let x = table::slot_at(table, k);
-    if table::is_broken(x, versions) {
+    if table_forms::is_broken(x, versions) {
         return Placed::Refused(refusals::BROKEN_SLOT);
     }
-    if !table::is_live(x) {
+    if !table_forms::is_live(x) {
         return Placed::Refused(refusals::KEY_NOT_LIVE);
     }
     place(

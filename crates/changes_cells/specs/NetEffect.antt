@@ -8,8 +8,8 @@ use lib.Signed.{ltZ}
 use Rattle.laws.specs.OrderLaws.{leZ-refl, ltZ-leZ}
 use Rattle.table.specs.declared.Slot.{Slot}
 use Rattle.table.specs.Slots.{empty}
-use Rattle.table.specs.Operations.{live}
-use Rattle.table.specs.OperationLaws.{live-insert, live-update}
+use Rattle.table_forms.specs.Operations.{live}
+use Rattle.table_forms.specs.OperationLaws.{live-insert, live-update}
 use Rattle.changes_cells.specs.Tables.{newInsert, saved, removed, inserted, updated, deleted}
 use Rattle.changes_cells.specs.TableLaws.{inserted-same, updated-older, updated-same, deleted-older, deleted-insert}
 

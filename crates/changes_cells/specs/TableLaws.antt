@@ -5,8 +5,8 @@ use lib.IntN.{ℤ, pos}
 use lib.Signed.{ltZ}
 use Rattle.table.specs.declared.Slot.{Slot}
 use Rattle.table.specs.Slots.{empty}
-use Rattle.table.specs.Operations.{insertOperation, updateOperation, deleteOperation, live}
-use Rattle.table.specs.OperationLaws.{live-cases, column-empty, column-insert, column-update, column-delete}
+use Rattle.table_forms.specs.Operations.{insertOperation, updateOperation, deleteOperation, live}
+use Rattle.table_forms.specs.OperationLaws.{live-cases, column-empty, column-insert, column-update, column-delete}
 use Rattle.changes_cells.specs.Tables.{newInsert, restored, saved, corrected, removed, marked, changed, inserted, updated, deleted}
 
 -- ---- insert. No slot for the key; key's slot deleted, older run; deleted by this run

@@ -8,7 +8,7 @@ use lib.ListN.{getD}
 use Rattle.laws.specs.Cells.{cellAt}
 use Rattle.table.specs.declared.Slot.{Slot}
 use Rattle.table.specs.Slots.{empty}
-use Rattle.table.specs.Operations.{insertOperation, updateOperation, deleteOperation, column}
+use Rattle.table_forms.specs.Operations.{insertOperation, updateOperation, deleteOperation, column}
 
 -- ---- what a change leaves of the slot x, by run m, with the totals a and b given
 -- old totals 0, current totals given, m, insert

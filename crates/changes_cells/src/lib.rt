@@ -30,7 +30,7 @@ fn new_insert(run: i64, key1: i64, key2: i64, total1: i64, total2: i64) -> Slot
 {
     Slot {
         run: run,
-        operation: table::INSERT,
+        operation: table_forms::INSERT,
         key1: key1,
         key2: key2,
         current1: total1,
@@ -43,7 +43,7 @@ fn new_insert(run: i64, key1: i64, key2: i64, total1: i64, total2: i64) -> Slot
 fn restore(mut x: Slot, total1: i64, total2: i64) -> Slot
     ensures { λ r. ⌜ r ≡ restored x total1 total2 ⌝ }
 {
-    x.operation = table::UPDATE;
+    x.operation = table_forms::UPDATE;
     x.current1 = total1;
     x.current2 = total2;
     x
@@ -53,7 +53,7 @@ fn save(run: i64, mut x: Slot, total1: i64, total2: i64) -> Slot
     ensures { λ r. ⌜ r ≡ saved run x total1 total2 ⌝ }
 {
     x.run = run;
-    x.operation = table::UPDATE;
+    x.operation = table_forms::UPDATE;
     x.old1 = x.current1;
     x.old2 = x.current2;
     x.current1 = total1;
@@ -73,7 +73,7 @@ fn remove(run: i64, mut x: Slot) -> Slot
     ensures { λ r. ⌜ r ≡ removed run x ⌝ }
 {
     x.run = run;
-    x.operation = table::DELETE;
+    x.operation = table_forms::DELETE;
     x.old1 = x.current1;
     x.old2 = x.current2;
     x
@@ -82,7 +82,7 @@ fn remove(run: i64, mut x: Slot) -> Slot
 fn mark(mut x: Slot) -> Slot
     ensures { λ r. ⌜ r ≡ marked x ⌝ }
 {
-    x.operation = table::DELETE;
+    x.operation = table_forms::DELETE;
     x
 }
 
@@ -117,6 +117,6 @@ pub fn change(
     ensures { λ r. ⌜ r ≡ changed cells (runNumber versions) x key1 key2 total1 total2 ⌝ }
 {
     let run = versions::run_number(versions);
-    let cell = table::cell_of(cells, x.run < run, table::column_of(x));
+    let cell = table_forms::cell_of(cells, x.run < run, table_forms::column_of(x));
     write_cell(cell, run, x, key1, key2, total1, total2)
 }

@@ -8,8 +8,8 @@ use Rattle.laws.specs.First.{first}
 use Rattle.laws.specs.Lowest.{lowest, some}
 use Rattle.versions.specs.Record.{badRecord, freshRecord}
 use Rattle.table.specs.Slots.{freshTable, badTable, slotAt}
-use Rattle.table.specs.Totals.{lawful}
-use Rattle.table.specs.Formed.{allZeros, totalsLawful, usedWell, wellFormed}
+use Rattle.table_forms.specs.Totals.{lawful}
+use Rattle.table_forms.specs.Formed.{allZeros, totalsLawful, usedWell, wellFormed}
 use Rattle.blocks_words.specs.Words.{checkPlace, bytesOf, blockOf, wordAt}
 use Rattle.blocks_loads.specs.HeaderFields.{headerWords}
 use Rattle.blocks.specs.SlotBlocks.{slotBlockWords, blockBroken}

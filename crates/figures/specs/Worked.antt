@@ -15,9 +15,9 @@ use Rattle.versions.specs.Record.{badRecord}
 use Rattle.versions.specs.Sessions.{unborn, expired}
 use Rattle.versions.specs.Runs.{beginRefusal, beginAnswer, beginRecord, commitRefusal, commitAnswer, commitRecord}
 use Rattle.table.specs.Slots.{badTable, slotAt, putSlot}
-use Rattle.table.specs.Operations.{column, live}
-use Rattle.table.specs.Totals.{lawful, unlawful}
-use Rattle.table.specs.Formed.{allZeros, totalsLawful, usedWell, wellFormed, anyBroken}
+use Rattle.table_forms.specs.Operations.{column, live}
+use Rattle.table_forms.specs.Totals.{lawful, unlawful}
+use Rattle.table_forms.specs.Formed.{allZeros, totalsLawful, usedWell, wellFormed, anyBroken}
 use Rattle.table_searches.specs.Keys.{hasKey, keySlot}
 use Rattle.table_searches.specs.Free.{longDeleted, free, freeSlot}
 use Rattle.reads.specs.declared.Seen.the-variants as seen

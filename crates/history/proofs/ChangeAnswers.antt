@@ -16,10 +16,10 @@ use Rattle.versions.specs.declared.VersionRecord.{VersionRecord}
 use Rattle.versions.specs.Record.{runNumber}
 use Rattle.table.specs.declared.Slot.{Slot}
 use Rattle.table.specs.Slots.{slots, slotAt}
-use Rattle.table.specs.Operations.{live}
-use Rattle.table.specs.OperationLaws.{dead-empty}
-use Rattle.table.specs.Formed.{wellFormed}
-use Rattle.table.specs.FormedLaws.{formed-cases, dead-deleted}
+use Rattle.table_forms.specs.Operations.{live}
+use Rattle.table_forms.specs.OperationLaws.{dead-empty}
+use Rattle.table_forms.specs.Formed.{wellFormed}
+use Rattle.table_forms.specs.FormedLaws.{formed-cases, dead-deleted}
 use Rattle.table_searches.specs.Keys.{keySlot, keyed, keyLive}
 use Rattle.table_searches.specs.KeyLaws.{keySlot-is, absent-nowhere}
 use Rattle.table_searches.specs.Free.{free}

@@ -6,7 +6,7 @@ use mathlib.Core.List.{List, _∷_, map}
 use Prim.Native.Nat.{ℕ, zero, suc}
 use lib.IntN.{ℤ, pos}
 use Rattle.table.specs.Slots.{badTable, slotAt}
-use Rattle.table.specs.FormedLaws.{all-formed}
+use Rattle.table_forms.specs.FormedLaws.{all-formed}
 use Rattle.table_searches.specs.Keys.{keySlot}
 use Rattle.reads.specs.Table1.{shown}
 use Rattle.reads.specs.RollUp

@@ -21,7 +21,7 @@ use Rattle.versions.specs.Runs.{beginRefusal, begunFrom, commitRefusal, committ
 use Rattle.versions.specs.RunLaws.{can-begin, can-commit}
 use Rattle.table.specs.Slots.{slots, slotAt, freshTable}
 use Rattle.table.specs.SlotLaws.{put-length, fresh-slots, fresh-shape, fresh-slot}
-use Rattle.table.specs.FormedLaws.{formed-cases, formed-later, empty-formed}
+use Rattle.table_forms.specs.FormedLaws.{formed-cases, formed-later, empty-formed}
 use Rattle.table_searches.specs.Keys.{hasKey, keySlot}
 use Rattle.table_searches.specs.KeyLaws.{has-key, keyed-has, keySlot-is, empty-keyless, absent-empty, absent-nowhere}
 use Rattle.reads.specs.declared.Seen.{Seen}

@@ -53,8 +53,8 @@ pub use blocks::load_block;
 pub use table::MOST_WORDS;
 pub use table::SLOT_WORDS;
 // The range of a total.
-pub use table::HIGHEST_TOTAL;
-pub use table::LOWEST_TOTAL;
+pub use table_forms::HIGHEST_TOTAL;
+pub use table_forms::LOWEST_TOTAL;
 // The bytes of a block.
 pub use blocks::BLOCK_BYTES;
 // The refusals by name.

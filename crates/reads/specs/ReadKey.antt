@@ -7,7 +7,7 @@ use lib.IntN.{ℤ}
 use Rattle.refusals.specs.Refusals as refusal
 use Rattle.laws.specs.First.{first, unless}
 use Rattle.versions.specs.declared.VersionRecord.{VersionRecord}
-use Rattle.table.specs.Formed.{broken}
+use Rattle.table_forms.specs.Formed.{broken}
 use Rattle.table_searches.specs.Keys.{keyed}
 use Rattle.reads.specs.declared.Seen.{Seen}
 use Rattle.reads.specs.declared.Seen.the-variants.{Refused}

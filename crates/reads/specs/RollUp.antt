@@ -10,7 +10,7 @@ use Rattle.laws.specs.First.{first, unless}
 use Rattle.laws.specs.Order.{eqZ}
 use Rattle.versions.specs.declared.VersionRecord.{VersionRecord}
 use Rattle.table.specs.Slots.{slots, slotAt}
-use Rattle.table.specs.Formed.{anyBroken}
+use Rattle.table_forms.specs.Formed.{anyBroken}
 use Rattle.reads.specs.declared.Seen.{Seen}
 use Rattle.reads.specs.declared.Seen.the-variants.{Row, NoRow, Refused}
 use Rattle.reads.specs.declared.Rolled.{Rolled}

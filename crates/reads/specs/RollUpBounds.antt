@@ -1,5 +1,5 @@
 -- What bounds a roll-up: rows whose totals are lawful, and the count and sums of at most so many of them. Assumes nothing.
-use Rattle.table.specs.Totals.{Given, largestTotal}
+use Rattle.table_forms.specs.Totals.{Given, largestTotal}
 use Rattle.reads.specs.declared.Seen.{Seen}
 use Rattle.reads.specs.declared.Seen.the-variants.{Row, NoRow, Refused}
 use Prim.Native.Nat.{ℕ, _*_, _≤_}

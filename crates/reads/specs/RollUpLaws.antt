@@ -12,9 +12,9 @@ use Rattle.laws.specs.Sums.{sum-within, small-fits}
 use Rattle.versions.specs.declared.VersionRecord.{VersionRecord}
 use Rattle.table.specs.declared.Slot.{Slot}
 use Rattle.table.specs.Slots.{mostSlots, slotAt}
-use Rattle.table.specs.TotalLaws.{lawful-within}
-use Rattle.table.specs.Totals.{Given, largestTotal}
-use Rattle.table.specs.Formed.{wellFormed}
+use Rattle.table_forms.specs.TotalLaws.{lawful-within}
+use Rattle.table_forms.specs.Totals.{Given, largestTotal}
+use Rattle.table_forms.specs.Formed.{wellFormed}
 use Rattle.reads.specs.declared.Seen.{Seen}
 use Rattle.reads.specs.declared.Seen.the-variants.{Row, NoRow, Refused}
 use Rattle.reads.specs.Table1.{shown}

@@ -18,8 +18,8 @@ use Rattle.versions.specs.SessionLaws.{born, expires, open-reaches}
 use Rattle.table.specs.declared.Slot.{Slot}
 use Rattle.table.specs.Slots.{slotAt, freshTable}
 use Rattle.table.specs.SlotLaws.{fresh-shape, fresh-slot}
-use Rattle.table.specs.Formed.{broken}
-use Rattle.table.specs.FormedLaws.{formed-cases}
+use Rattle.table_forms.specs.Formed.{broken}
+use Rattle.table_forms.specs.FormedLaws.{formed-cases}
 use Rattle.reads.specs.declared.Seen.the-variants.{Refused}
 use Rattle.reads.specs.ReadSlot.{readSlotAnswer}
 use Rattle.reads.specs.ReadOutcomes.{slot-expired}

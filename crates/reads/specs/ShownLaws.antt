@@ -10,8 +10,8 @@ use Rattle.laws.specs.OrderLaws.{eqZ-true}
 use Rattle.laws.specs.Order.{eqZ}
 use Rattle.laws.specs.Cells.{cellAt}
 use Rattle.table.specs.declared.Slot.{Slot}
-use Rattle.table.specs.Operations.{emptyOperation, column}
-use Rattle.table.specs.OperationLaws.{column-empty}
+use Rattle.table_forms.specs.Operations.{emptyOperation, column}
+use Rattle.table_forms.specs.OperationLaws.{column-empty}
 use Rattle.reads.specs.declared.Seen.{Seen}
 use Rattle.reads.specs.declared.Seen.the-variants.{Row, NoRow}
 use Rattle.reads.specs.Table1.{table1, readCurrent, readOld, currentRow, oldRow, readCell, shown}

@@ -7,7 +7,7 @@ use lib.IntN.{ℤ}
 use lib.Signed.{leZ}
 use Rattle.laws.specs.Cells.{cellAt}
 use Rattle.table.specs.declared.Slot.{Slot}
-use Rattle.table.specs.Operations.{column}
+use Rattle.table_forms.specs.Operations.{column}
 use Rattle.reads.specs.declared.Seen.{Seen}
 use Rattle.reads.specs.declared.Seen.the-variants.{Row, NoRow}
 

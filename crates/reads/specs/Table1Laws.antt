@@ -8,10 +8,10 @@ use Rattle.laws.specs.TestLaws.{clash}
 use Rattle.versions.specs.declared.VersionRecord.{VersionRecord}
 use Rattle.table.specs.declared.Slot.{Slot}
 use Rattle.table.specs.Slots.{empty}
-use Rattle.table.specs.Operations.{insertOperation, updateOperation, deleteOperation, live}
-use Rattle.table.specs.OperationLaws.{live-cases, column-insert, column-update, column-delete}
-use Rattle.table.specs.Formed.{wellFormed}
-use Rattle.table.specs.FormedLaws.{formed-cases}
+use Rattle.table_forms.specs.Operations.{insertOperation, updateOperation, deleteOperation, live}
+use Rattle.table_forms.specs.OperationLaws.{live-cases, column-insert, column-update, column-delete}
+use Rattle.table_forms.specs.Formed.{wellFormed}
+use Rattle.table_forms.specs.FormedLaws.{formed-cases}
 use Rattle.reads.specs.declared.Seen.the-variants.{NoRow}
 use Rattle.reads.specs.Table1.{currentRow, oldRow, shown}
 use Rattle.reads.specs.ShownLaws.{shown-cases, shown-own}

@@ -8,7 +8,7 @@ ghost use Rattle.refusals.specs.Refusals.{brokenSlot};
 ghost use Rattle.laws.specs.First.{first, unless};
 ghost use Rattle.versions.specs.Record.{badRecord};
 ghost use Rattle.table.specs.Slots.{mostSlots};
-ghost use Rattle.table.specs.Formed.{broken};
+ghost use Rattle.table_forms.specs.Formed.{broken};
 ghost use Rattle.reads.specs.Table1.{shown};
 ghost use Rattle.reads.specs.RollUpBounds.{LawfulRow, Bounded};
 ghost use Rattle.reads.specs.SessionTests.{sessionRefusal};
@@ -73,7 +73,7 @@ pub fn show(x: Slot, session: i64) -> Seen
     let run = x.run;
     let key1 = x.key1;
     let key2 = x.key2;
-    let cell = table::cell_of(TABLE_1, run <= session, table::column_of(x));
+    let cell = table_forms::cell_of(TABLE_1, run <= session, table_forms::column_of(x));
     if cell == READ_CURRENT {
         let total1 = x.current1;
         let total2 = x.current2;
@@ -125,7 +125,7 @@ fn show_formed(x: Slot, versions: VersionRecord, session: i64) -> Seen
     requires { ⌜ badRecord versions ≡ false ⌝ }
     ensures { λ r. ⌜ r ≡ unless (first ((broken x versions, brokenSlot) ∷ [])) Seen.Refused (shown session x) ⌝ }
 {
-    if table::is_broken(x, versions) {
+    if table_forms::is_broken(x, versions) {
         return Seen::Refused(refusals::BROKEN_SLOT);
     }
     show(x, session)
@@ -203,7 +203,7 @@ pub fn roll_up(table: &[i64], versions: VersionRecord, session: i64, key1: i64) 
     let mut k: usize = 0;
     while k < slots {
         let x = table::slot_at(table, k);
-        if table::is_broken(x, versions) {
+        if table_forms::is_broken(x, versions) {
             return Rolled::Refused(refusals::BROKEN_SLOT);
         }
         tally = tally_slot(tally, x, session, key1);

@@ -1,9 +1,3 @@
 pub mod Slots
 pub mod SlotLaws
-pub mod Operations
-pub mod OperationLaws
-pub mod Totals
-pub mod TotalLaws
-pub mod Formed
-pub mod FormedLaws
 pub mod Fits

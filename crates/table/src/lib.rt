@@ -1,16 +1,9 @@
-// The table's words as slots. `slot_at` and `put_slot` are the two functions that read and write a slot; a decision is a function
-// on a slot. All here are leaves for our other crates: below tests 1 and 2 they
-// require a table and a record that pass them.
+// The table's words as slots. `slot_at` and `put_slot` are the two functions that read and write a slot. All here are leaves for our
+// other crates: below test 1 they require a table that passes it.
 ghost use mathlib.Core.Path.{_≡_};
-ghost use mathlib.Core.Bool.{true, false};
+ghost use mathlib.Core.Bool.{false};
 ghost use Prim.Native.Nat.{_<_};
-ghost use Rattle.laws.specs.Cells.{columns, cellAt};
-ghost use Rattle.versions.specs.Record.{badRecord};
 ghost use Rattle.table.specs.Slots.{badTable, slots, empty, slotAt, putSlot};
-ghost use Rattle.table.specs.Operations.{column, live, liveWord};
-ghost use Rattle.table.specs.Totals.{lawful, unlawful};
-ghost use Rattle.table.specs.Formed.{allZeros, totalsLawful, usedWell, wellFormed, broken};
-use versions::VersionRecord;
 
 // Eight words to a slot, and at most 1,024 slots.
 pub const SLOT_WORDS: usize = 8;
@@ -35,21 +28,6 @@ const CURRENT2: usize = 5;
 const OLD1: usize = 6;
 
 const OLD2: usize = 7;
-
-// The operation word.
-pub const INSERT: i64 = 1;
-
-pub const UPDATE: i64 = 2;
-
-pub const DELETE: i64 = 3;
-
-// The columns of a decision table: empty, insert, update, delete.
-const COLUMNS: usize = 4;
-
-// The range of a total.
-pub const LOWEST_TOTAL: i64 = -1_000_000_000_000_000;
-
-pub const HIGHEST_TOTAL: i64 = 1_000_000_000_000_000;
 
 pub struct Slot {
     pub run: i64,
@@ -137,110 +115,4 @@ pub fn put_slot(table: &mut [i64], k: usize, x: Slot)
     table[at + CURRENT2] = current2;
     table[at + OLD1] = old1;
     table[at + OLD2] = old2;
-}
-
-// A total that may be given and stored.
-pub fn is_lawful(total: i64) -> bool
-    ensures { λ r. ⌜ r ≡ lawful total ⌝ }
-{
-    (LOWEST_TOTAL <= total) & (total <= HIGHEST_TOTAL)
-}
-
-// Refusal 13.
-pub fn is_unlawful(total1: i64, total2: i64) -> bool
-    ensures { λ r. ⌜ r ≡ unlawful total1 total2 ⌝ }
-{
-    !(is_lawful(total1) & is_lawful(total2))
-}
-
-// The slot's column in the decision tables.
-pub fn column_of(x: Slot) -> usize
-    ensures { λ r. ⌜ r ≡ column x ⌝ }
-{
-    let operation = x.operation;
-    if operation == INSERT {
-        return 1;
-    }
-    if operation == UPDATE {
-        return 2;
-    }
-    if operation == DELETE {
-        return 3;
-    }
-    0
-}
-
-// The cell of a decision table: its first row is that where its test holds, and a row has a column for each operation.
-pub fn cell_of(cells: [u8; 8], holds: bool, column: usize) -> u8
-    requires { ⌜ column < columns ⌝ }
-    ensures { λ r. ⌜ r ≡ cellAt cells holds column ⌝ }
-{
-    let row = !holds as usize;
-    cells[row * COLUMNS + column]
-}
-
-// Whether an operation word is that of a live slot.
-pub fn lives(operation: i64) -> bool
-    ensures { λ r. ⌜ r ≡ liveWord operation ⌝ }
-{
-    (operation == INSERT) | (operation == UPDATE)
-}
-
-pub fn is_live(x: Slot) -> bool
-    ensures { λ r. ⌜ r ≡ live x ⌝ }
-{
-    lives(x.operation)
-}
-
-pub fn all_zeros(x: Slot) -> bool
-    ensures { λ r. ⌜ r ≡ allZeros x ⌝ }
-{
-    (x.run == 0)
-        & (x.operation == 0)
-        & (x.key1 == 0)
-        & (x.key2 == 0)
-        & (x.current1 == 0)
-        & (x.current2 == 0)
-        & (x.old1 == 0)
-        & (x.old2 == 0)
-}
-
-fn totals_lawful(x: Slot) -> bool
-    ensures { λ r. ⌜ r ≡ totalsLawful x ⌝ }
-{
-    is_lawful(x.current1) & is_lawful(x.current2) & is_lawful(x.old1) & is_lawful(x.old2)
-}
-
-fn used_well(x: Slot, versions: VersionRecord) -> bool
-    requires { ⌜ badRecord versions ≡ false ⌝ }
-    ensures { λ r. ⌜ r ≡ usedWell x versions ⌝ }
-{
-    let run = x.run;
-    let operation = x.operation;
-    let old1 = x.old1;
-    let old2 = x.old2;
-    let last = versions::last_run(versions);
-    ((INSERT <= operation) & (operation <= DELETE))
-        & ((1 <= run) & (run <= last))
-        & totals_lawful(x)
-        & ((operation != INSERT) | ((old1 == 0) & (old2 == 0)))
-}
-
-pub fn well_formed(x: Slot, versions: VersionRecord) -> bool
-    requires { ⌜ badRecord versions ≡ false ⌝ }
-    ensures { λ r. ⌜ r ≡ wellFormed x versions ⌝ }
-{
-    let operation = x.operation;
-    if operation == 0 {
-        return all_zeros(x);
-    }
-    used_well(x, versions)
-}
-
-// Refusal 6.
-pub fn is_broken(x: Slot, versions: VersionRecord) -> bool
-    requires { ⌜ badRecord versions ≡ false ⌝ }
-    ensures { λ r. ⌜ r ≡ broken x versions ⌝ }
-{
-    !well_formed(x, versions)
 }

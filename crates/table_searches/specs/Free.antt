@@ -11,8 +11,8 @@ use Rattle.versions.specs.declared.VersionRecord.{VersionRecord}
 use Rattle.versions.specs.Record.{runNumber}
 use Rattle.table.specs.declared.Slot.{Slot}
 use Rattle.table.specs.Slots.{slots, slotAt}
-use Rattle.table.specs.Operations.{deleteOperation}
-use Rattle.table.specs.Formed.{allZeros, wellFormed}
+use Rattle.table_forms.specs.Operations.{deleteOperation}
+use Rattle.table_forms.specs.Formed.{allZeros, wellFormed}
 
 -- it is well formed and deleted by an older run
 unfoldable pub longDeleted : Slot → VersionRecord → Bool

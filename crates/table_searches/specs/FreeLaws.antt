@@ -15,10 +15,10 @@ use Rattle.versions.specs.declared.VersionRecord.{VersionRecord}
 use Rattle.versions.specs.Record.{runNumber}
 use Rattle.table.specs.declared.Slot.{Slot}
 use Rattle.table.specs.Slots.{empty, slots, slotAt}
-use Rattle.table.specs.Operations.{deleteOperation, live}
-use Rattle.table.specs.OperationLaws.{dead-empty, dead-delete}
-use Rattle.table.specs.Formed.{allZeros, wellFormed}
-use Rattle.table.specs.FormedLaws.{Used, zeros-empty, empty-zeros, formed-cases}
+use Rattle.table_forms.specs.Operations.{deleteOperation, live}
+use Rattle.table_forms.specs.OperationLaws.{dead-empty, dead-delete}
+use Rattle.table_forms.specs.Formed.{allZeros, wellFormed}
+use Rattle.table_forms.specs.FormedLaws.{Used, zeros-empty, empty-zeros, formed-cases}
 use Rattle.table_searches.specs.Free.{longDeleted, free, freeSlot}
 use Rattle.table_searches.specs.FreeSearch.{Taken, FourLive}
 

@@ -6,7 +6,7 @@ use Prim.Native.Nat.{ℕ, _+_, _<_}
 use lib.IntN.{ℤ}
 use Rattle.versions.specs.declared.VersionRecord.{VersionRecord}
 use Rattle.table.specs.Slots.{slotAt}
-use Rattle.table.specs.Operations.{live}
+use Rattle.table_forms.specs.Operations.{live}
 use Rattle.table_searches.specs.Free.{free}
 
 -- ---- a search has passed the slots below a place: none of them is free

@@ -18,8 +18,8 @@ use Rattle.laws.specs.Lowest.{Lowest}
 use Rattle.table.specs.declared.Slot.{Slot}
 use Rattle.table.specs.Slots.{badTable, slots, slotAt, empty}
 use Rattle.table.specs.SlotLaws.{slotAt-past}
-use Rattle.table.specs.Operations.{emptyOperation}
-use Rattle.table.specs.OperationLaws.{dead-empty}
+use Rattle.table_forms.specs.Operations.{emptyOperation}
+use Rattle.table_forms.specs.OperationLaws.{dead-empty}
 use Rattle.table_searches.specs.Keys.{hasKey, keySlot, keyed, keyLive}
 use Rattle.table_searches.specs.KeySearch.{Keyless, FourApart}
 

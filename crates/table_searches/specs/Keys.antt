@@ -9,7 +9,7 @@ use Rattle.laws.specs.Order.{eqZ}
 use Rattle.laws.specs.Lowest.{lowest}
 use Rattle.table.specs.declared.Slot.{Slot}
 use Rattle.table.specs.Slots.{slots, slotAt}
-use Rattle.table.specs.Operations.{emptyOperation, live}
+use Rattle.table_forms.specs.Operations.{emptyOperation, live}
 
 -- its operation word isn't 0 and its two key words match
 unfoldable pub hasKey : Slot → ℤ → ℤ → Bool

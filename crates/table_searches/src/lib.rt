@@ -94,14 +94,14 @@ fn long_deleted(x: Slot, versions: VersionRecord) -> bool
     let run = x.run;
     let operation = x.operation;
     let running = versions::run_number(versions);
-    (operation == table::DELETE) & (run < running) & table::well_formed(x, versions)
+    (operation == table_forms::DELETE) & (run < running) & table_forms::well_formed(x, versions)
 }
 
 fn is_free(x: Slot, versions: VersionRecord) -> bool
     requires { ⌜ badRecord versions ≡ false ⌝ }
     ensures { λ r. ⌜ r ≡ free x versions ⌝ }
 {
-    table::all_zeros(x) | long_deleted(x, versions)
+    table_forms::all_zeros(x) | long_deleted(x, versions)
 }
 
 // Whether the slot at a place is free. A live one is told by its operation word alone.
@@ -111,7 +111,7 @@ fn free_at(table: &[i64], k: usize, versions: VersionRecord) -> bool
     requires { ⌜ badRecord versions ≡ false ⌝ }
     ensures { λ r. ⌜ r ≡ free (slotAt (now (table .entry)) k) versions ⌝ }
 {
-    if table::lives(table[k * SLOT_WORDS + OPERATION]) {
+    if table_forms::lives(table[k * SLOT_WORDS + OPERATION]) {
         return false;
     }
     is_free(table::slot_at(table, k), versions)
@@ -124,10 +124,10 @@ fn four_live(table: &[i64], k: usize) -> bool
     ensures { λ r. ⌜ (r ≡ true → FourLive (now (table .entry)) k) ⌝ }
 {
     let at = k * SLOT_WORDS;
-    table::lives(table[at + OPERATION])
-        & table::lives(table[at + SLOT_WORDS + OPERATION])
-        & table::lives(table[at + 2 * SLOT_WORDS + OPERATION])
-        & table::lives(table[at + 3 * SLOT_WORDS + OPERATION])
+    table_forms::lives(table[at + OPERATION])
+        & table_forms::lives(table[at + SLOT_WORDS + OPERATION])
+        & table_forms::lives(table[at + 2 * SLOT_WORDS + OPERATION])
+        & table_forms::lives(table[at + 3 * SLOT_WORDS + OPERATION])
 }
 
 // The lowest free slot below an end, or the end, looked for from a place on below which none is free.

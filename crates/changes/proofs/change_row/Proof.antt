@@ -7,7 +7,7 @@ use borrow.Author.Needs.{needs}
 use Rattle.laws.specs.TestLaws.{not-no}
 use Rattle.laws.specs.FirstLaws.{skip, hit}
 use Rattle.laws.specs.Bits.{plain}
-use Rattle.table.specs.Formed.{broken}
+use Rattle.table_forms.specs.Formed.{broken}
 use Rattle.table_searches.specs.Keys.{keyed}
 use Rattle.table_searches.specs.KeyLaws.{live-placed}
 use Rattle.changes.specs.ChangeTests.{notLive}

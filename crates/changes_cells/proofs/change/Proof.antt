@@ -5,7 +5,7 @@ use mir.Syntax.{w64}
 use mir.Val.{SFits}
 use borrow.Author.Needs.{needs}
 use Rattle.laws.specs.Bits.{plain}
-use Rattle.table.specs.OperationLaws.{column-below}
+use Rattle.table_forms.specs.OperationLaws.{column-below}
 use Rattle.changes_cells.specs.Tables.{written, changed}
 use Rattle.changes_cells.proofs.change.Statement.{statement}
 use Rattle.changes_cells.proofs.change.Tie as tie

@@ -17,8 +17,8 @@ use Rattle.laws.specs.First.{first}
 use Rattle.laws.specs.LowestLaws.{below-next}
 use Rattle.table.specs.Slots.{slots, slotAt}
 use Rattle.table.specs.SlotLaws.{lengths, slotAt-past}
-use Rattle.table.specs.Formed.{wellFormed, broken}
-use Rattle.table.specs.FormedLaws.{empty-formed, none-broken, all-formed}
+use Rattle.table_forms.specs.Formed.{wellFormed, broken}
+use Rattle.table_forms.specs.FormedLaws.{empty-formed, none-broken, all-formed}
 use Rattle.reads.specs.declared.Rolled.the-variants.{Refused}
 use Rattle.reads.specs.SessionTests.{sessionTests, sessionRefusal}
 use Rattle.reads.specs.OpenLaws.{Open, opened}

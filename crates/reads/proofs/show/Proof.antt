@@ -6,8 +6,8 @@ use borrow.Author.Needs.{needs}
 use borrow.Author.Tests.{eq-eqb, ne-eqb}
 use Rattle.laws.specs.Bits.{plain}
 use Rattle.laws.specs.Cells.{cellAt}
-use Rattle.table.specs.Operations.{column}
-use Rattle.table.specs.OperationLaws.{column-below}
+use Rattle.table_forms.specs.Operations.{column}
+use Rattle.table_forms.specs.OperationLaws.{column-below}
 use Rattle.table.specs.Fits.{SlotFits, told}
 use Rattle.reads.specs.Table1.{table1, shown}
 use Rattle.reads.proofs.show.Statement.{statement}

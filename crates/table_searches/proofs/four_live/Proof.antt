@@ -13,8 +13,8 @@ use Rattle.laws.specs.Tests.{all}
 use Rattle.laws.specs.Bits.{plain}
 use Rattle.table.specs.Slots.{word}
 use Rattle.table.specs.SlotLaws.{operation-at, word-on}
-use Rattle.table.specs.OperationLaws.{live-word}
-use Rattle.table.specs.Operations.{liveWord}
+use Rattle.table_forms.specs.OperationLaws.{live-word}
+use Rattle.table_forms.specs.Operations.{liveWord}
 use Rattle.table_searches.proofs.four_live.Statement.{statement}
 use Rattle.table_searches.proofs.four_live.Tie as tie
 

@@ -7,7 +7,7 @@ use borrow.Author.Needs.{needs}
 use Rattle.laws.specs.Bits.{plain}
 use Rattle.table.specs.Slots.{word}
 use Rattle.table.specs.SlotLaws.{operation-at}
-use Rattle.table.specs.OperationLaws.{live-word}
+use Rattle.table_forms.specs.OperationLaws.{live-word}
 use Rattle.table_searches.specs.FreeLaws.{live-kept}
 use Rattle.table_searches.proofs.free_at.Statement.{statement}
 use Rattle.table_searches.proofs.free_at.Tie as tie

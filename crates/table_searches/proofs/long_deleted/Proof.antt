@@ -5,7 +5,7 @@ use mir.Val.{SFits}
 use borrow.Author.Needs.{needs}
 use Rattle.laws.specs.Tests.{all}
 use Rattle.laws.specs.Bits.{plain, eq-bits}
-use Rattle.table.specs.Operations.{deleteOperation}
+use Rattle.table_forms.specs.Operations.{deleteOperation}
 use Rattle.table_searches.specs.Free.{longDeleted}
 use Rattle.table.specs.Fits.{SlotFits, told}
 use Rattle.table_searches.proofs.long_deleted.Statement.{statement}

@@ -11,7 +11,7 @@ use Rattle.laws.specs.LowestLaws.{below-next}
 use Rattle.versions.specs.declared.VersionRecord.{VersionRecord}
 use Rattle.table.specs.Slots.{slotAt}
 use Rattle.table.specs.SlotLaws.{lengths}
-use Rattle.table.specs.Formed.{broken}
+use Rattle.table_forms.specs.Formed.{broken}
 use Rattle.blocks_words.specs.FollowLaws.{nothing-written}
 use Rattle.blocks_words.specs.Follows.{FollowedBy}
 use Rattle.blocks_words.specs.Longs.{blockSlots}
