@@ -4,10 +4,10 @@ use crate::block::{self, SLOTS_IN_A_BLOCK};
 use crate::call::{Call, Kind, Lent};
 use crate::damage;
 use crate::edges;
-use crate::hostile;
 use crate::random::Random;
 use crate::record::Version;
 use crate::slot::{Key, Slot, Totals};
+use crate::slots;
 
 /// What arguments are drawn from.
 pub struct Arguments {
@@ -110,11 +110,11 @@ impl Arguments {
             block::places(written, slots).len()
         };
         let mut slots_held: Vec<Slot> = (0..held)
-            .map(|_| hostile::well_formed_slot(random, version, &self.keys))
+            .map(|_| slots::well_formed(random, version, &self.keys))
             .collect();
         if random.percent(self.odd) {
             let place = random.below(slots_held.len());
-            slots_held[place] = hostile::slot(random, version, &self.keys);
+            slots_held[place] = slots::hostile(random, version, &self.keys);
         }
         let block = damage::of_slots(random, written, slots, &slots_held);
         Call::LoadBlock { number, block }

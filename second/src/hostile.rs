@@ -7,7 +7,8 @@ use crate::edges;
 use crate::model;
 use crate::random::Random;
 use crate::record::{LARGEST_VERSION, Version, VersionRecord};
-use crate::slot::{DELETE, INSERT, Key, SLOT_WORDS, Slot, UPDATE};
+use crate::slot::{Key, SLOT_WORDS};
+use crate::slots;
 use crate::table::{MOST_WORDS, Table};
 
 const ODD_ARGUMENTS: usize = 20;
@@ -109,68 +110,17 @@ fn table(random: &mut Random, length: usize, record: VersionRecord, keys: &[Key]
     let mut words = Vec::new();
     while words.len() < length {
         let slot = if all_hostile {
-            slot(random, version, keys)
+            slots::hostile(random, version, keys)
         } else {
-            well_formed_slot(random, version, keys)
+            slots::well_formed(random, version, keys)
         };
         words.extend(slot.words());
     }
     if random.percent(40) && length >= SLOT_WORDS {
         let place = random.below(length / SLOT_WORDS) * SLOT_WORDS;
-        words[place..][..SLOT_WORDS].copy_from_slice(&slot(random, version, keys).words());
+        let slot = slots::hostile(random, version, keys);
+        words[place..][..SLOT_WORDS].copy_from_slice(&slot.words());
     }
     words.truncate(length);
     Table { words }
-}
-
-/// A slot that is well formed, if any is at the version.
-pub fn well_formed_slot(random: &mut Random, version: Version, keys: &[Key]) -> Slot {
-    if random.percent(25) {
-        return Slot::zeros();
-    }
-    let newest = version
-        .current
-        .saturating_add(i64::from(version.run_active));
-    let newest = newest.clamp(1, LARGEST_VERSION);
-    let run = match random.below(4) {
-        0 => random.between(1, newest),
-        1 => 1.max(newest - 1),
-        _ => newest,
-    };
-    let operation = random.between(INSERT, DELETE);
-    let old = if operation == INSERT {
-        [0, 0]
-    } else {
-        edges::totals(random)
-    };
-    Slot {
-        run,
-        operation,
-        key: random.pick(keys),
-        current: edges::totals(random),
-        old,
-    }
-}
-
-/// A slot that most often is just not well formed.
-pub fn slot(random: &mut Random, version: Version, keys: &[Key]) -> Slot {
-    let mut slot = match random.below(8) {
-        0 => Slot::zeros(),
-        1 => any_slot(random),
-        _ => well_formed_slot(random, version, keys),
-    };
-    match random.below(6) {
-        0 => slot.run = edges::word_near(random, version.current),
-        1 => slot.operation = edges::word_near(random, UPDATE),
-        2 => slot.current = edges::unlawful_totals(random),
-        3 => slot.old = edges::unlawful_totals(random),
-        4 => slot.old = edges::totals(random),
-        _ => slot.key.one = edges::word(random),
-    }
-    slot
-}
-
-fn any_slot(random: &mut Random) -> Slot {
-    let words: [i64; SLOT_WORDS] = std::array::from_fn(|_| edges::word(random));
-    Slot::from_words(&words)
 }

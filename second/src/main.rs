@@ -21,6 +21,7 @@ mod refusal;
 mod report;
 mod shrink;
 mod slot;
+mod slots;
 mod steps;
 mod steps_compare;
 mod steps_input;
