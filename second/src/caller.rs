@@ -1,12 +1,10 @@
 //! The caller: the C program that makes the library's calls, and its protocol.
 
 use crate::call::{Call, Lent, OUT_WORDS, Out};
-use crate::record::RECORD_WORDS;
+use crate::record::{RECORD_WORDS, VersionRecord};
+use crate::table::Table;
 use std::io::{self, Read, Write};
 use std::process::{Child, ChildStdin, ChildStdout, Command, Stdio};
-
-/// What the caller fills the room around each thing lent with.
-pub const GUARD_WORD: i64 = 0xa5a5_a5a5_a5a5_a5a5_u64 as i64;
 
 const WORD_BYTES: usize = 8;
 const GUARDS_STAND: i64 = 0;
@@ -155,10 +153,10 @@ pub fn part_answer(answer: &[u8], words: usize, bytes: usize) -> Left {
         guards_stand: word(answer, 0) == GUARDS_STAND,
         out: out_of(answer),
         lent: Lent {
-            table: crate::table::Table {
+            table: Table {
                 words: table.collect(),
             },
-            record: crate::record::VersionRecord { words: record },
+            record: VersionRecord { words: record },
         },
         block: answer[block_at..][..bytes].to_vec(),
     }

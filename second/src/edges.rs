@@ -1,11 +1,13 @@
 //! Words at the edges of what is allowed, and keys that are easily confused.
 
-use crate::caller::GUARD_WORD;
 use crate::random::Random;
 use crate::record::LARGEST_VERSION;
 use crate::slot::{Key, LARGEST_TOTAL, Totals};
 
 const HALF_RANGE: i64 = 1 << 32;
+
+/// The word that the caller fills the room around each thing lent with.
+const GUARD_WORD: i64 = 0xa5a5_a5a5_a5a5_a5a5_u64 as i64;
 
 const WORDS: [i64; 18] = [
     0,

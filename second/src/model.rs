@@ -2,7 +2,7 @@
 
 use crate::block::{self, Block};
 use crate::call::{Answer, Call, Lent};
-use crate::record::Version;
+use crate::record::{LARGEST_VERSION, Version};
 use crate::refusal::Refusal;
 use crate::slot::{Key, Slot, Totals, is_lawful};
 
@@ -32,7 +32,7 @@ fn begin(lent: &mut Lent) -> Outcome {
     if version.run_active {
         return Err(Refusal::RunActive);
     }
-    if version.current == crate::record::LARGEST_VERSION {
+    if version.current == LARGEST_VERSION {
         return Err(Refusal::LargestVersion);
     }
     lent.record.set(Version {
