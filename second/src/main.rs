@@ -1,37 +1,18 @@
 //! The second program: an independent model of the table reader, and its
 //! comparison with the proved library and with the program `steps`.
 
-mod arguments;
-mod batch;
-mod block;
-mod call;
-mod caller;
-mod case;
-mod coverage;
-mod damage;
-mod databases;
-mod edges;
-mod figures;
-mod hostile;
-mod lawful;
+mod cases;
+mod comparison;
 mod model;
-mod random;
-mod record;
-mod refusal;
-mod report;
-mod shrink;
-mod slot;
-mod slots;
-mod steps;
-mod steps_compare;
-mod steps_input;
-mod table;
 
-use batch::{Batch, Difference};
-use caller::Caller;
-use coverage::Coverage;
-use databases::Tally;
-use random::Random;
+use cases::case::Case;
+use cases::random::Random;
+use cases::{figures, hostile, lawful};
+use comparison::batch::{Batch, Difference};
+use comparison::caller::Caller;
+use comparison::coverage::Coverage;
+use comparison::databases::Tally;
+use comparison::{report, shrink, steps};
 use std::process::ExitCode;
 
 const USAGE: &str = "usage: second SEED COUNT STEPS CALLER...
@@ -149,7 +130,7 @@ fn compare_calls(
     caller: &mut Caller,
     random: &mut Random,
     count: usize,
-    first: Vec<case::Case>,
+    first: Vec<Case>,
     found: &mut Found,
 ) -> Result<(), Box<Difference>> {
     let mut batch = Batch::default();
@@ -188,7 +169,7 @@ fn compare_steps(plan: &Plan, random: &mut Random) -> Result<(), String> {
     };
     let inputs = plan.count / CALLS_FOR_A_STEPS_INPUT;
     let inputs = inputs.clamp(FEWEST_STEPS_INPUTS, MOST_STEPS_INPUTS);
-    let lines = steps_compare::compare(program, random, inputs)?;
+    let lines = steps::compare(program, random, inputs)?;
     println!("{lines} lines of the program steps agree");
     Ok(())
 }

@@ -1,6 +1,6 @@
 //! A case: what is lent at its start, and the calls made on it in order.
 
-use crate::call::{Call, Lent};
+use crate::model::call::{Call, Lent};
 
 #[derive(Clone, PartialEq, Eq, Debug)]
 pub struct Case {

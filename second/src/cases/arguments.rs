@@ -1,13 +1,13 @@
 //! The arguments of calls: mostly sensible ones, and some that are odd.
 
-use crate::block::{self, SLOTS_IN_A_BLOCK};
-use crate::call::{Call, Kind, Lent};
-use crate::damage;
-use crate::edges;
-use crate::random::Random;
-use crate::record::Version;
-use crate::slot::{Key, Slot, Totals};
-use crate::slots;
+use crate::cases::damage;
+use crate::cases::edges;
+use crate::cases::random::Random;
+use crate::cases::slots;
+use crate::model::block::{self, SLOTS_IN_A_BLOCK};
+use crate::model::call::{Call, Kind, Lent};
+use crate::model::record::Version;
+use crate::model::slot::{Key, Slot, Totals};
 
 /// What arguments are drawn from.
 pub struct Arguments {

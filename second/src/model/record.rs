@@ -1,6 +1,6 @@
 //! The version record: the current version and whether a run is active.
 
-use crate::refusal::Refusal;
+use crate::model::refusal::Refusal;
 
 pub const RECORD_WORDS: usize = 4;
 pub const LARGEST_VERSION: i64 = 1_000_000_000;

@@ -1,13 +1,13 @@
 //! Document 01's figures, by which the model itself is held to the document.
 
-use crate::block::{BLOCK_BYTES, Block};
-use crate::call::{Call, Lent, OUT_WORDS, out_words};
-use crate::case::Case;
-use crate::model;
-use crate::record::VersionRecord;
-use crate::slot::{Key, LARGEST_TOTAL};
-use crate::steps;
-use crate::table::Table;
+use crate::cases::case::Case;
+use crate::model::block::{BLOCK_BYTES, Block};
+use crate::model::call::{Call, Lent, OUT_WORDS, out_words};
+use crate::model::outcome::make_call;
+use crate::model::record::VersionRecord;
+use crate::model::slot::{Key, LARGEST_TOTAL};
+use crate::model::steps;
+use crate::model::table::Table;
 
 /// The source's Figure 4, and an empty slot.
 const FIGURE_4: [[i64; 8]; 5] = [
@@ -95,7 +95,7 @@ pub fn cases() -> Result<Vec<Case>, String> {
 fn held_to(figure: Figure) -> Result<Case, String> {
     let mut lent = figure.start.clone();
     for (call, gives) in &figure.calls {
-        let outcome = model::make(call, &mut lent);
+        let outcome = make_call(call, &mut lent);
         let right = match gives {
             Gives::Numbers(numbers) => {
                 let mut out = numbers.clone();

@@ -1,10 +1,10 @@
 //! The calls, their answers, and the numbers that a C caller gets.
 
-use crate::block::{BLOCK_BYTES, Block};
-use crate::record::VersionRecord;
-use crate::refusal::Refusal;
-use crate::slot::{Key, Row, Totals};
-use crate::table::Table;
+use crate::model::block::{BLOCK_BYTES, Block};
+use crate::model::record::VersionRecord;
+use crate::model::refusal::Refusal;
+use crate::model::slot::{Key, Row, Totals};
+use crate::model::table::Table;
 use std::fmt;
 
 pub const OUT_WORDS: usize = 8;

@@ -1,15 +1,15 @@
 //! Lawful histories: runs, sessions and saves from a fresh table and a fresh
 //! record, and tables brought from one record to another by their blocks.
 
-use crate::arguments::Arguments;
-use crate::block;
-use crate::call::{Answer, Call, KINDS, Kind, Lent};
-use crate::case::Case;
-use crate::edges;
-use crate::model;
-use crate::random::Random;
-use crate::record::VersionRecord;
-use crate::table::{MOST_SLOTS, Table};
+use crate::cases::arguments::Arguments;
+use crate::cases::case::Case;
+use crate::cases::edges;
+use crate::cases::random::Random;
+use crate::model::block;
+use crate::model::call::{Answer, Call, KINDS, Kind, Lent};
+use crate::model::outcome::make_call;
+use crate::model::record::VersionRecord;
+use crate::model::table::{MOST_SLOTS, Table};
 
 const ODD_ARGUMENTS: usize = 3;
 const MOST_SMALL_SLOTS: usize = 16;
@@ -144,7 +144,7 @@ impl History {
     /// Makes the call.
     fn push(&mut self, call: Call) {
         // a refused call is part of a history too
-        let _ = model::make(&call, &mut self.lent);
+        let _ = make_call(&call, &mut self.lent);
         self.calls.push(call);
     }
 
@@ -212,7 +212,7 @@ impl History {
         let last = block::last_number(self.lent.table.slots().unwrap_or(0)) as u64;
         for number in 1..=last {
             let save = Call::SaveBlock { number };
-            let saved = model::make(&save, &mut self.lent);
+            let saved = make_call(&save, &mut self.lent);
             if let Ok(Answer::Saved(block)) = saved {
                 let block = block.bytes();
                 self.saved.push(Call::LoadBlock { number, block });

@@ -1,8 +1,8 @@
 //! Words at the edges of what is allowed, and keys that are easily confused.
 
-use crate::random::Random;
-use crate::record::LARGEST_VERSION;
-use crate::slot::{Key, LARGEST_TOTAL, Totals};
+use crate::cases::random::Random;
+use crate::model::record::LARGEST_VERSION;
+use crate::model::slot::{Key, LARGEST_TOTAL, Totals};
 
 const HALF_RANGE: i64 = 1 << 32;
 

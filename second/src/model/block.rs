@@ -1,9 +1,9 @@
 //! The block of 512 bytes.
 
-use crate::record::{LARGEST_VERSION, Version};
-use crate::refusal::Refusal;
-use crate::slot::{SLOT_WORDS, Slot};
-use crate::table::{MOST_SLOTS, Table};
+use crate::model::record::{LARGEST_VERSION, Version};
+use crate::model::refusal::Refusal;
+use crate::model::slot::{SLOT_WORDS, Slot};
+use crate::model::table::{MOST_SLOTS, Table};
 
 pub const BLOCK_BYTES: usize = 512;
 pub const BLOCK_WORDS: usize = 128;

@@ -1,15 +1,15 @@
 //! What each call answers and writes.
 
-use crate::block::{self, Block};
-use crate::call::{Answer, Call, Lent};
-use crate::record::{LARGEST_VERSION, Version};
-use crate::refusal::Refusal;
-use crate::slot::{Key, Slot, Totals, is_lawful};
+use crate::model::block::{self, Block};
+use crate::model::call::{Answer, Call, Lent};
+use crate::model::record::{LARGEST_VERSION, Version};
+use crate::model::refusal::Refusal;
+use crate::model::slot::{Key, Slot, Totals, is_lawful};
 
 type Outcome = Result<Answer, Refusal>;
 
 /// Makes the call. A refusal leaves what is lent as it was.
-pub fn make(call: &Call, lent: &mut Lent) -> Outcome {
+pub fn make_call(call: &Call, lent: &mut Lent) -> Outcome {
     match call {
         Call::Open => Ok(Answer::Version(lent.record.version()?.current)),
         Call::Begin => begin(lent),

@@ -1,10 +1,10 @@
 //! The model of the program `steps`: what it prints for what it reads.
 
-use crate::call::{Answer, Call, Lent};
-use crate::model;
-use crate::record::VersionRecord;
-use crate::slot::Key;
-use crate::table::Table;
+use crate::model::call::{Answer, Call, Lent};
+use crate::model::outcome::make_call;
+use crate::model::record::VersionRecord;
+use crate::model::slot::Key;
+use crate::model::table::Table;
 
 const SLOTS: usize = 8;
 const MOST_DIGITS: usize = 19;
@@ -35,7 +35,7 @@ fn answer_line(line: &[u8], lent: &mut Lent) -> String {
     let Some(call) = call_of(line) else {
         return BAD_LINE.to_string();
     };
-    match model::make(&call, lent) {
+    match make_call(&call, lent) {
         Err(refusal) => format!("refused {}", refusal.number()),
         Ok(Answer::Version(version)) => format!("version {version}"),
         Ok(Answer::Slot(place)) => format!("slot {place}"),

@@ -1,8 +1,8 @@
 //! The table: lent words, eight to a slot.
 
-use crate::record::Version;
-use crate::refusal::Refusal;
-use crate::slot::{EMPTY, Key, SLOT_WORDS, Slot};
+use crate::model::record::Version;
+use crate::model::refusal::Refusal;
+use crate::model::slot::{EMPTY, Key, SLOT_WORDS, Slot};
 
 pub const MOST_SLOTS: usize = 1_024;
 pub const MOST_WORDS: usize = MOST_SLOTS * SLOT_WORDS;

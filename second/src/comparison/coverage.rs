@@ -1,9 +1,9 @@
 //! What the calls reached: every refusal of every call, and every cell of the
 //! source's Tables 1 to 4.
 
-use crate::call::{Answer, Call, KINDS, Kind, Lent};
-use crate::refusal::Refusal;
-use crate::slot::{EMPTY, INSERT, Key, Slot};
+use crate::model::call::{Answer, Call, KINDS, Kind, Lent};
+use crate::model::refusal::Refusal;
+use crate::model::slot::{EMPTY, INSERT, Key, Slot};
 
 const REFUSALS: usize = 16;
 const OUTCOMES: usize = REFUSALS + 1;

@@ -1,8 +1,8 @@
 //! The caller: the C program that makes the library's calls, and its protocol.
 
-use crate::call::{Call, Lent, OUT_WORDS, Out};
-use crate::record::{RECORD_WORDS, VersionRecord};
-use crate::table::Table;
+use crate::model::call::{Call, Lent, OUT_WORDS, Out};
+use crate::model::record::{RECORD_WORDS, VersionRecord};
+use crate::model::table::Table;
 use std::io::{self, Read, Write};
 use std::process::{Child, ChildStdin, ChildStdout, Command, Stdio};
 

@@ -1,9 +1,9 @@
 //! What is printed of a difference.
 
-use crate::batch::{Difference, LeftApart, What};
-use crate::caller::Left;
-use crate::case::Case;
-use crate::slot::SLOT_WORDS;
+use crate::cases::case::Case;
+use crate::comparison::batch::{Difference, LeftApart, What};
+use crate::comparison::caller::Left;
+use crate::model::slot::SLOT_WORDS;
 
 pub fn print(difference: &Difference) {
     print_start(&difference.case);

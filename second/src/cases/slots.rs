@@ -1,10 +1,10 @@
 //! Slots drawn for tables and for blocks: well formed ones, and ones that most
 //! often just are not.
 
-use crate::edges;
-use crate::random::Random;
-use crate::record::{LARGEST_VERSION, Version};
-use crate::slot::{DELETE, INSERT, Key, SLOT_WORDS, Slot, UPDATE};
+use crate::cases::edges;
+use crate::cases::random::Random;
+use crate::model::record::{LARGEST_VERSION, Version};
+use crate::model::slot::{DELETE, INSERT, Key, SLOT_WORDS, Slot, UPDATE};
 
 /// A slot that is well formed, if any is at the version.
 pub fn well_formed(random: &mut Random, version: Version, keys: &[Key]) -> Slot {

@@ -1,9 +1,9 @@
 //! Demand 3: the committed databases, followed by accepted changes alone and
 //! never read off the table, and what reads and inserts must answer by them.
 
-use crate::call::{Call, OUT_WORDS, Out};
-use crate::refusal::Refusal;
-use crate::slot::{Key, Row, Totals, is_lawful};
+use crate::model::call::{Call, OUT_WORDS, Out};
+use crate::model::refusal::Refusal;
+use crate::model::slot::{Key, Row, Totals, is_lawful};
 use std::collections::BTreeMap;
 use std::ops::AddAssign;
 

@@ -1,11 +1,11 @@
 //! The shortest case found that still shows a difference.
 
-use crate::batch::{Difference, What, differ};
-use crate::block::{Block, CHECK};
-use crate::call::Call;
-use crate::caller::Caller;
-use crate::case::Case;
-use crate::slot::SLOT_WORDS;
+use crate::cases::case::Case;
+use crate::comparison::batch::{Difference, What, differ};
+use crate::comparison::caller::Caller;
+use crate::model::block::{Block, CHECK};
+use crate::model::call::Call;
+use crate::model::slot::SLOT_WORDS;
 use std::collections::BTreeSet;
 use std::ops::RangeInclusive;
 

@@ -1,15 +1,15 @@
 //! Hostile cases: any table words, any record, any arguments.
 
-use crate::arguments::Arguments;
-use crate::call::{KINDS, Lent};
-use crate::case::Case;
-use crate::edges;
-use crate::model;
-use crate::random::Random;
-use crate::record::{LARGEST_VERSION, Version, VersionRecord};
-use crate::slot::{Key, SLOT_WORDS};
-use crate::slots;
-use crate::table::{MOST_WORDS, Table};
+use crate::cases::arguments::Arguments;
+use crate::cases::case::Case;
+use crate::cases::edges;
+use crate::cases::random::Random;
+use crate::cases::slots;
+use crate::model::call::{KINDS, Lent};
+use crate::model::outcome::make_call;
+use crate::model::record::{LARGEST_VERSION, Version, VersionRecord};
+use crate::model::slot::{Key, SLOT_WORDS};
+use crate::model::table::{MOST_WORDS, Table};
 
 const ODD_ARGUMENTS: usize = 20;
 const MOST_KEYS: usize = 5;
@@ -66,7 +66,7 @@ pub fn case(random: &mut Random) -> Case {
         let kind = random.pick(&KINDS);
         let call = arguments.call(random, kind, &lent);
         // what is lent to the next call is what this one leaves
-        let _ = model::make(&call, &mut lent);
+        let _ = make_call(&call, &mut lent);
         calls.push(call);
     }
     Case { start, calls }

@@ -1,12 +1,12 @@
 //! A batch of cases: its requests, what the model expects of them, and the
 //! comparison with what the library left.
 
-use crate::call::{Call, Lent, out_words};
-use crate::caller::{self, Caller, Left};
-use crate::case::Case;
-use crate::coverage::Coverage;
-use crate::databases::{Followed, Tally};
-use crate::model;
+use crate::cases::case::Case;
+use crate::comparison::caller::{self, Caller, Left};
+use crate::comparison::coverage::Coverage;
+use crate::comparison::databases::{Followed, Tally};
+use crate::model::call::{Call, Lent, out_words};
+use crate::model::outcome::make_call;
 use std::io;
 
 /// The cases of a batch, ready to be sent.
@@ -57,7 +57,7 @@ impl Batch {
         for call in &case.calls {
             caller::put_request(&mut self.requests, call, &lent);
             let before = lent.clone();
-            let outcome = model::make(call, &mut lent);
+            let outcome = make_call(call, &mut lent);
             self.coverage.count(call, &before, &outcome);
             let block = call.left_block(&outcome);
             caller::put_answer(&mut self.expected, &out_words(&outcome), &lent, &block);

@@ -1,7 +1,7 @@
 //! Input for the program `steps`: sessions of good and bad lines.
 
-use crate::edges;
-use crate::random::Random;
+use crate::cases::edges;
+use crate::cases::random::Random;
 
 const FEW_WORDS: i64 = 3;
 const MOST_LINES: usize = 600;

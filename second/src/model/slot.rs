@@ -1,7 +1,7 @@
 //! A slot: eight words of the table, and Tables 1 to 4 on them.
 
-use crate::record::Version;
-use crate::refusal::Refusal;
+use crate::model::record::Version;
+use crate::model::refusal::Refusal;
 
 pub const SLOT_WORDS: usize = 8;
 pub const LARGEST_TOTAL: i64 = 1_000_000_000_000_000;

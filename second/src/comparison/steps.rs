@@ -1,10 +1,10 @@
 //! The comparison of the program `steps` with its model.
 
-use crate::figures;
-use crate::random::Random;
-use crate::shrink;
-use crate::steps;
-use crate::steps_input;
+use crate::cases::figures;
+use crate::cases::random::Random;
+use crate::cases::steps_input;
+use crate::comparison::shrink;
+use crate::model::steps;
 use std::io::{self, Write};
 use std::process::{Command, Stdio};
 use std::thread;

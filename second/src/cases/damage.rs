@@ -1,14 +1,14 @@
 //! Blocks to load: sound ones, and ones damaged in one way.
 
-use crate::block::{
+use crate::cases::edges;
+use crate::cases::random::Random;
+use crate::model::block::{
     self, BLOCK_BYTES, BLOCK_WORDS, Block, CHECK, FIRST_FILLER, HEADER_CURRENT,
     HEADER_FIRST_FILLER, HEADER_SLOTS, SLOT_HALVES,
 };
-use crate::edges;
-use crate::random::Random;
-use crate::record::LARGEST_VERSION;
-use crate::slot::Slot;
-use crate::table::MOST_SLOTS;
+use crate::model::record::LARGEST_VERSION;
+use crate::model::slot::Slot;
+use crate::model::table::MOST_SLOTS;
 
 #[derive(Clone, Copy)]
 enum Damage {

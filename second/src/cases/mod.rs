@@ -1,0 +1,13 @@
+//! What is asked of both sides: cases of calls and inputs of the program `steps`,
+//! drawn at random, and document 01's figures. It knows the model alone.
+
+pub mod arguments;
+pub mod case;
+pub mod damage;
+pub mod edges;
+pub mod figures;
+pub mod hostile;
+pub mod lawful;
+pub mod random;
+pub mod slots;
+pub mod steps_input;
