@@ -3,6 +3,7 @@
 
 pub mod batch;
 pub mod caller;
+pub mod calls;
 pub mod coverage;
 pub mod databases;
 pub mod report;
