@@ -58,7 +58,7 @@ impl Arguments {
 
     /// A session at or beside the current version.
     fn session(&self, random: &mut Random, lent: &Lent) -> i64 {
-        let current = lent.record.words[0];
+        let current = lent.record.says().current;
         if random.percent(self.odd) {
             return edges::word_near(random, current);
         }
@@ -100,8 +100,8 @@ impl Arguments {
         let number = self.number(random, lent);
         let slots = slot_count(lent).max(1);
         let version = Version {
-            current: lent.record.words[0],
             run_active: false,
+            ..lent.record.says()
         };
         let written = (number as usize).clamp(1, block::last_number(slots));
         let held = if random.percent(self.odd) {

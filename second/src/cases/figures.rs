@@ -166,13 +166,6 @@ fn figure_4() -> Lent {
     }
 }
 
-fn fresh(slots: usize) -> Lent {
-    Lent {
-        table: Table::fresh(slots),
-        record: VersionRecord::new(1, 0, [0, 0]),
-    }
-}
-
 fn reads_of_figure_4() -> Figure {
     Figure {
         start: figure_4(),
@@ -211,7 +204,7 @@ fn changes_of_figure_5() -> Figure {
 fn net_effects() -> Figure {
     let end = [[3, 2, 1, 1, 7, 0, 6, 0], [3, 1, 2, 2, 9, 0, 0, 0], [0; 8]];
     Figure {
-        start: fresh(3),
+        start: Lent::fresh(3),
         calls: vec![
             begin(2),
             insert(1, 1, 6, &[0, 0]),
@@ -230,7 +223,7 @@ fn net_effects() -> Figure {
 
 fn one_slot() -> Figure {
     Figure {
-        start: fresh(1),
+        start: Lent::fresh(1),
         calls: vec![
             begin(2),
             insert(1, 1, 6, &[0, 0]),
@@ -248,7 +241,7 @@ fn one_slot() -> Figure {
 
 fn totals() -> Figure {
     Figure {
-        start: fresh(1),
+        start: Lent::fresh(1),
         calls: vec![
             begin(2),
             insert(1, 1, LARGEST_TOTAL + 1, &[13]),
@@ -266,7 +259,7 @@ fn checks(total_two: i64, check: u32) -> Figure {
     };
     let save = Call::SaveBlock { number: 1 };
     Figure {
-        start: fresh(8),
+        start: Lent::fresh(8),
         calls: vec![
             (Call::SaveHeader, Gives::Check(9)),
             (save.clone(), Gives::Check(1)),

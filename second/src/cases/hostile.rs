@@ -7,7 +7,7 @@ use crate::cases::random::Random;
 use crate::cases::slots;
 use crate::model::call::{KINDS, Lent};
 use crate::model::outcome::make_call;
-use crate::model::record::{LARGEST_VERSION, Version, VersionRecord};
+use crate::model::record::{LARGEST_VERSION, VersionRecord};
 use crate::model::slot::{Key, SLOT_WORDS};
 use crate::model::table::{MOST_WORDS, Table};
 
@@ -102,10 +102,7 @@ fn table_length(random: &mut Random, long: bool) -> usize {
 
 /// A table of any length. Most have at most one slot that is not well formed.
 fn table(random: &mut Random, length: usize, record: VersionRecord, keys: &[Key]) -> Table {
-    let version = Version {
-        current: record.words[0],
-        run_active: record.words[1] == 1,
-    };
+    let version = record.says();
     let all_hostile = random.percent(20);
     let mut words = Vec::new();
     while words.len() < length {

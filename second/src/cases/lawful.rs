@@ -70,7 +70,7 @@ pub fn case(random: &mut Random) -> Case {
     let slots = slot_count(random);
     let start = Lent {
         table: Table::fresh(slots),
-        record: VersionRecord::new(1, 0, [edges::word(random), edges::word(random)]),
+        record: VersionRecord::fresh([edges::word(random), edges::word(random)]),
     };
     let most_calls = if slots > MOST_MIDDLE_SLOTS {
         MOST_CALLS_ON_LARGE
@@ -89,11 +89,7 @@ pub fn case(random: &mut Random) -> Case {
 /// version, and goes on from there. The model must give the same words.
 pub fn reloaded_case(random: &mut Random) -> Case {
     let slots = 1 + random.below(MOST_SMALL_SLOTS);
-    let fresh = Lent {
-        table: Table::fresh(slots),
-        record: VersionRecord::new(1, 0, [0, 0]),
-    };
-    let mut source = History::new(random, &fresh);
+    let mut source = History::new(random, &Lent::fresh(slots));
     source.grow(random, MOST_CALLS);
     source.push(Call::Commit);
     source.save();
@@ -157,8 +153,7 @@ impl History {
                 self.push(read);
                 continue;
             }
-            let run_active = self.lent.record.words[1] == 1;
-            let next = if run_active {
+            let next = if self.lent.record.says().run_active {
                 random.weighted(&IN_A_RUN)
             } else {
                 random.weighted(&BETWEEN_RUNS)
@@ -188,7 +183,7 @@ impl History {
 
     fn push_kind(&mut self, random: &mut Random, kind: Kind) {
         let call = self.arguments.call(random, kind, &self.lent);
-        let run_active = self.lent.record.words[1] == 1;
+        let run_active = self.lent.record.says().run_active;
         if kind != Kind::LoadBlock || self.may_load || run_active {
             self.push(call);
         }
@@ -197,7 +192,7 @@ impl History {
     /// Opens a session that is to read each slot once, in any order.
     fn begin_scan(&mut self, random: &mut Random) {
         let slots = self.lent.table.slots().unwrap_or(0) as u64;
-        let session = self.lent.record.words[0] - i64::from(random.percent(30));
+        let session = self.lent.record.says().current - i64::from(random.percent(30));
         self.scan = (0..slots)
             .map(|slot| Call::ReadSlot { session, slot })
             .collect();

@@ -1,7 +1,7 @@
 //! What the calls reached: every refusal of every call, and every cell of the
 //! source's Tables 1 to 4.
 
-use crate::model::call::{Answer, Call, KINDS, Kind, Lent};
+use crate::model::call::{Answer, Call, KINDS, Kind, Lent, Outcome};
 use crate::model::refusal::Refusal;
 use crate::model::slot::{EMPTY, INSERT, Key, Slot};
 
@@ -50,7 +50,7 @@ const TABLES: [(&str, Kind); 6] = [
 
 impl Coverage {
     /// Counts a call on what was lent before it, and its outcome.
-    pub fn count(&mut self, call: &Call, before: &Lent, outcome: &Result<Answer, Refusal>) {
+    pub fn count(&mut self, call: &Call, before: &Lent, outcome: &Outcome) {
         let number = match outcome {
             Ok(_) => 0,
             Err(refusal) => refusal.number() as usize,
@@ -79,14 +79,8 @@ impl Coverage {
         }
     }
 
-    fn count_change(
-        &mut self,
-        kind: Kind,
-        key: Key,
-        before: &Lent,
-        outcome: &Result<Answer, Refusal>,
-    ) {
-        let run = before.record.words[0] + 1;
+    fn count_change(&mut self, kind: Kind, key: Key, before: &Lent, outcome: &Outcome) {
+        let run = before.record.says().run();
         match (slot_of(before, key), outcome) {
             (Some(slot), _) => self.count_cell(kind, &slot, slot.run < run),
             (None, Ok(Answer::Slot(place))) => {

@@ -19,6 +19,15 @@ pub struct Lent {
     pub record: VersionRecord,
 }
 
+impl Lent {
+    pub fn fresh(slots: usize) -> Lent {
+        Lent {
+            table: Table::fresh(slots),
+            record: VersionRecord::fresh([0, 0]),
+        }
+    }
+}
+
 #[derive(Clone, Copy, PartialEq, Eq, Debug)]
 pub enum Kind {
     Open,
@@ -80,6 +89,8 @@ pub enum Answer {
     Header { slots: usize, current: i64 },
     Loaded,
 }
+
+pub type Outcome = Result<Answer, Refusal>;
 
 impl Kind {
     pub fn number(self) -> i64 {
@@ -159,7 +170,7 @@ impl Call {
     }
 
     /// The block as the call leaves it.
-    pub fn left_block(&self, outcome: &Result<Answer, Refusal>) -> Vec<u8> {
+    pub fn left_block(&self, outcome: &Outcome) -> Vec<u8> {
         match (self.kind(), outcome) {
             (_, Ok(Answer::Saved(block))) => block.bytes(),
             (Kind::SaveHeader | Kind::SaveBlock, Err(_)) => vec![0; BLOCK_BYTES],
@@ -169,7 +180,7 @@ impl Call {
 }
 
 /// The eight words for an answer or a refusal.
-pub fn out_words(outcome: &Result<Answer, Refusal>) -> Out {
+pub fn out_words(outcome: &Outcome) -> Out {
     let mut out = [0; OUT_WORDS];
     let numbers: Vec<i64> = match outcome {
         Err(refusal) => {

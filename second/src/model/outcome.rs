@@ -1,12 +1,10 @@
 //! What each call answers and writes.
 
 use crate::model::block::{self, Block};
-use crate::model::call::{Answer, Call, Lent};
+use crate::model::call::{Answer, Call, Lent, Outcome};
 use crate::model::record::{LARGEST_VERSION, Version};
 use crate::model::refusal::Refusal;
 use crate::model::slot::{Key, Slot, Totals, is_lawful};
-
-type Outcome = Result<Answer, Refusal>;
 
 /// Makes the call. A refusal leaves what is lent as it was.
 pub fn make_call(call: &Call, lent: &mut Lent) -> Outcome {

@@ -8,6 +8,10 @@ pub const LARGEST_VERSION: i64 = 1_000_000_000;
 const CURRENT: usize = 0;
 const RUN_MARK: usize = 1;
 
+const FIRST_VERSION: i64 = 1;
+const NO_RUN: i64 = 0;
+const A_RUN: i64 = 1;
+
 /// The record as it is lent: any four words.
 #[derive(Clone, Copy, PartialEq, Eq, Debug)]
 pub struct VersionRecord {
@@ -28,20 +32,33 @@ impl VersionRecord {
         }
     }
 
+    /// A fresh record, with any words where no call looks.
+    pub fn fresh(rest: [i64; 2]) -> VersionRecord {
+        VersionRecord::new(FIRST_VERSION, NO_RUN, rest)
+    }
+
     pub fn is_fresh(&self) -> bool {
-        self.words[CURRENT] == 1 && self.words[RUN_MARK] == 0
+        self.words[CURRENT] == FIRST_VERSION && self.words[RUN_MARK] == NO_RUN
+    }
+
+    /// What the record says, though it may be refused.
+    pub fn says(&self) -> Version {
+        Version {
+            current: self.words[CURRENT],
+            run_active: self.words[RUN_MARK] == A_RUN,
+        }
     }
 
     /// The version, or refusal 2.
     pub fn version(&self) -> Result<Version, Refusal> {
         let current = self.words[CURRENT];
         let run_active = match self.words[RUN_MARK] {
-            0 => false,
-            1 => true,
+            NO_RUN => false,
+            A_RUN => true,
             _ => return Err(Refusal::VersionRecord),
         };
         let largest = LARGEST_VERSION - i64::from(run_active);
-        if !(1..=largest).contains(&current) {
+        if !(FIRST_VERSION..=largest).contains(&current) {
             return Err(Refusal::VersionRecord);
         }
         Ok(Version {

@@ -2,9 +2,7 @@
 
 use crate::model::call::{Answer, Call, Lent};
 use crate::model::outcome::make_call;
-use crate::model::record::VersionRecord;
 use crate::model::slot::Key;
-use crate::model::table::Table;
 
 const SLOTS: usize = 8;
 const MOST_DIGITS: usize = 19;
@@ -21,10 +19,7 @@ pub fn lines(input: &[u8]) -> Vec<&[u8]> {
 
 /// What the program prints for the input.
 pub fn output(input: &[u8]) -> String {
-    let mut lent = Lent {
-        table: Table::fresh(SLOTS),
-        record: VersionRecord::new(1, 0, [0, 0]),
-    };
+    let mut lent = Lent::fresh(SLOTS);
     lines(input)
         .into_iter()
         .map(|line| answer_line(line, &mut lent) + "\n")
