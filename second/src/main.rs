@@ -14,6 +14,8 @@ use std::process::ExitCode;
 const USAGE: &str = "usage: second SEED COUNT STEPS CALLER...
 STEPS is the program steps, or - to leave it out; CALLER... is the command of the caller";
 
+const BAD_USAGE: u8 = 2;
+
 /// One input of `steps` for so many calls, within bounds.
 const CALLS_FOR_A_STEPS_INPUT: usize = 20_000;
 const FEWEST_STEPS_INPUTS: usize = 10;
@@ -29,7 +31,7 @@ struct Plan {
 fn main() -> ExitCode {
     let Some(plan) = plan(&std::env::args().skip(1).collect::<Vec<String>>()) else {
         eprintln!("{USAGE}");
-        return ExitCode::from(2);
+        return ExitCode::from(BAD_USAGE);
     };
     println!("seed {}, {} calls", plan.seed, plan.count);
     match compare(&plan) {

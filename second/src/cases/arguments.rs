@@ -9,6 +9,20 @@ use crate::model::call::{Call, Kind, Lent};
 use crate::model::record::Version;
 use crate::model::slot::{Key, Slot, Totals};
 
+/// Of the odd arguments, a key is odd only once in so many.
+const ODD_KEYS_ARE_ONE_IN: usize = 4;
+
+/// How far a session lies behind the current version, by weight.
+const BEHIND: [(usize, i64); 5] = [(10, 0), (8, 1), (2, 2), (1, 3), (1, -1)];
+
+/// Powers of two beyond which a place is lost if it is cut to a half word, taken as
+/// signed, or counted in words.
+const LOST_POWERS: [u32; 3] = [32, 61, 63];
+const MOST_BESIDE_A_POWER: usize = 3;
+
+/// What is added to the first place that is not there; the last takes one away.
+const BESIDE_THE_END: [u64; 4] = [0, 1, 7, u64::MAX];
+
 /// What arguments are drawn from.
 pub struct Arguments {
     pub keys: Vec<Key>,
@@ -62,17 +76,20 @@ impl Arguments {
         if random.percent(self.odd) {
             return edges::word_near(random, current);
         }
-        current.wrapping_sub(random.weighted(&[(10, 0), (8, 1), (2, 2), (1, 3), (1, -1)]))
+        current.wrapping_sub(random.weighted(&BEHIND))
     }
 
     /// A place from the first up, below the end, or one that is not there.
     fn place(&self, random: &mut Random, first: usize, end: usize) -> u64 {
         if end <= first || random.percent(self.odd) {
             return match random.below(4) {
-                0 => 1 << random.pick(&[32, 61, 63]),
-                1 => (1 << random.pick(&[32, 61, 63])) + random.below(4) as u64,
+                0 => 1 << random.pick(&LOST_POWERS),
+                1 => {
+                    let power: u64 = 1 << random.pick(&LOST_POWERS);
+                    power + random.below(MOST_BESIDE_A_POWER + 1) as u64
+                }
                 2 => edges::word(random) as u64,
-                _ => (end as u64).wrapping_add(random.pick(&[0, 1, 7, u64::MAX])),
+                _ => (end as u64).wrapping_add(random.pick(&BESIDE_THE_END)),
             };
         }
         (first + random.below(end - first)) as u64
@@ -83,7 +100,7 @@ impl Arguments {
     }
 
     fn key(&self, random: &mut Random) -> Key {
-        if random.percent(self.odd / 4) {
+        if random.percent(self.odd / ODD_KEYS_ARE_ONE_IN) {
             return edges::keys(random, 1)[0];
         }
         random.pick(&self.keys)

@@ -17,6 +17,12 @@ const MOST_SMALL_SLOTS: usize = 9;
 const MOST_CALLS: usize = 12;
 const MOST_CALLS_ON_LONG: usize = 3;
 
+/// One table in so many is long.
+const LONG_ARE_ONE_IN: usize = 400;
+const SHORT_PERCENT: usize = 7;
+const ALL_SLOTS_HOSTILE_PERCENT: usize = 20;
+const ONE_SLOT_HOSTILE_PERCENT: usize = 40;
+
 const SHORT_LENGTHS: [usize; 12] = [0, 1, 4, 7, 9, 12, 15, 17, 63, 65, 71, 121];
 const LONG_LENGTHS: [usize; 9] = [
     MOST_WORDS - 8,
@@ -49,7 +55,7 @@ pub fn case(random: &mut Random) -> Case {
     let record = record(random);
     let count = 1 + random.below(MOST_KEYS);
     let keys = edges::keys(random, count);
-    let long = random.below(400) == 0;
+    let long = random.below(LONG_ARE_ONE_IN) == 0;
     let length = table_length(random, long);
     let start = Lent {
         table: table(random, length, record, &keys),
@@ -93,7 +99,7 @@ fn record(random: &mut Random) -> VersionRecord {
 fn table_length(random: &mut Random, long: bool) -> usize {
     if long {
         random.pick(&LONG_LENGTHS)
-    } else if random.percent(7) {
+    } else if random.percent(SHORT_PERCENT) {
         random.pick(&SHORT_LENGTHS)
     } else {
         SLOT_WORDS * (1 + random.below(MOST_SMALL_SLOTS))
@@ -103,7 +109,7 @@ fn table_length(random: &mut Random, long: bool) -> usize {
 /// A table of any length. Most have at most one slot that is not well formed.
 fn table(random: &mut Random, length: usize, record: VersionRecord, keys: &[Key]) -> Table {
     let version = record.says();
-    let all_hostile = random.percent(20);
+    let all_hostile = random.percent(ALL_SLOTS_HOSTILE_PERCENT);
     let mut words = Vec::new();
     while words.len() < length {
         let slot = if all_hostile {
@@ -113,7 +119,7 @@ fn table(random: &mut Random, length: usize, record: VersionRecord, keys: &[Key]
         };
         words.extend(slot.words());
     }
-    if random.percent(40) && length >= SLOT_WORDS {
+    if random.percent(ONE_SLOT_HOSTILE_PERCENT) && length >= SLOT_WORDS {
         let place = random.below(length / SLOT_WORDS) * SLOT_WORDS;
         let slot = slots::hostile(random, version, keys);
         words[place..][..SLOT_WORDS].copy_from_slice(&slot.words());

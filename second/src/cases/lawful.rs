@@ -12,10 +12,26 @@ use crate::model::record::VersionRecord;
 use crate::model::table::{MOST_SLOTS, Table};
 
 const ODD_ARGUMENTS: usize = 3;
+const MOST_FEW_SLOTS: usize = 4;
 const MOST_SMALL_SLOTS: usize = 16;
 const MOST_MIDDLE_SLOTS: usize = 64;
 const MOST_CALLS: usize = 160;
 const MOST_CALLS_ON_LARGE: usize = 20;
+
+/// The most slots of a table, by weight.
+const SIZES: [(usize, usize); 4] = [
+    (5, MOST_SLOTS),
+    (45, MOST_MIDDLE_SLOTS),
+    (450, MOST_SMALL_SLOTS),
+    (500, MOST_FEW_SLOTS),
+];
+
+/// There may be so many keys more than slots.
+const MOST_KEYS_TOO_MANY: usize = 4;
+
+const MAY_LOAD_PERCENT: usize = 30;
+const GO_ON_WITH_A_SCAN_PERCENT: usize = 40;
+const SCAN_THE_VERSION_BEFORE_PERCENT: usize = 30;
 
 #[derive(Clone, Copy)]
 enum Next {
@@ -112,18 +128,14 @@ pub fn reloaded_case(random: &mut Random) -> Case {
 }
 
 fn slot_count(random: &mut Random) -> usize {
-    match random.below(1000) {
-        0..=4 => 1 + random.below(MOST_SLOTS),
-        5..=49 => 1 + random.below(MOST_MIDDLE_SLOTS),
-        50..=499 => 1 + random.below(MOST_SMALL_SLOTS),
-        _ => 1 + random.below(4),
-    }
+    let most = random.weighted(&SIZES);
+    1 + random.below(most)
 }
 
 impl History {
     fn new(random: &mut Random, start: &Lent) -> History {
         let slots = start.table.slots().unwrap_or(1);
-        let count = 1 + random.below(slots.min(MOST_MIDDLE_SLOTS) + 4);
+        let count = 1 + random.below(slots.min(MOST_MIDDLE_SLOTS) + MOST_KEYS_TOO_MANY);
         History {
             lent: start.clone(),
             arguments: Arguments {
@@ -133,7 +145,7 @@ impl History {
             calls: Vec::new(),
             scan: Vec::new(),
             saved: Vec::new(),
-            may_load: random.percent(30),
+            may_load: random.percent(MAY_LOAD_PERCENT),
         }
     }
 
@@ -147,7 +159,7 @@ impl History {
     fn grow(&mut self, random: &mut Random, most_calls: usize) {
         let length = self.calls.len() + 1 + random.below(most_calls);
         while self.calls.len() < length {
-            if random.percent(40)
+            if random.percent(GO_ON_WITH_A_SCAN_PERCENT)
                 && let Some(read) = self.scan.pop()
             {
                 self.push(read);
@@ -192,7 +204,8 @@ impl History {
     /// Opens a session that is to read each slot once, in any order.
     fn begin_scan(&mut self, random: &mut Random) {
         let slots = self.lent.table.slots().unwrap_or(0) as u64;
-        let session = self.lent.record.says().current - i64::from(random.percent(30));
+        let before = random.percent(SCAN_THE_VERSION_BEFORE_PERCENT);
+        let session = self.lent.record.says().current - i64::from(before);
         self.scan = (0..slots)
             .map(|slot| Call::ReadSlot { session, slot })
             .collect();

@@ -4,11 +4,13 @@
 use crate::cases::edges;
 use crate::cases::random::Random;
 use crate::model::record::{LARGEST_VERSION, Version};
-use crate::model::slot::{DELETE, INSERT, Key, SLOT_WORDS, Slot, UPDATE};
+use crate::model::slot::{DELETE, INSERT, Key, NULLS, SLOT_WORDS, Slot, UPDATE};
+
+const EMPTY_PERCENT: usize = 25;
 
 /// A slot that is well formed, if any is at the version.
 pub fn well_formed(random: &mut Random, version: Version, keys: &[Key]) -> Slot {
-    if random.percent(25) {
+    if random.percent(EMPTY_PERCENT) {
         return Slot::zeros();
     }
     let newest = version
@@ -22,7 +24,7 @@ pub fn well_formed(random: &mut Random, version: Version, keys: &[Key]) -> Slot 
     };
     let operation = random.between(INSERT, DELETE);
     let old = if operation == INSERT {
-        [0, 0]
+        NULLS
     } else {
         edges::totals(random)
     };

@@ -6,6 +6,8 @@ use crate::cases::random::Random;
 const FEW_WORDS: i64 = 3;
 const MOST_LINES: usize = 600;
 const LONG_LINE_BYTES: usize = 3_000_000;
+const NO_LAST_NEWLINE_PERCENT: usize = 50;
+const BEGIN_PERCENT: usize = 30;
 
 /// Numbers at the edges of what a line may have; some make a bad line.
 const NUMBERS: [&str; 24] = [
@@ -71,7 +73,7 @@ pub fn input(random: &mut Random) -> Vec<u8> {
         input.extend(session.line(random));
         input.push(b'\n');
     }
-    if random.percent(50) {
+    if random.percent(NO_LAST_NEWLINE_PERCENT) {
         input.pop();
     }
     input
@@ -102,7 +104,7 @@ impl Session {
             2 => (0..random.below(12)).map(|_| any_byte(random)).collect(),
             3 => self.turn().into_bytes(),
             4 => random.pick(&["B", "C"]).as_bytes().to_vec(),
-            _ if !self.run_active && random.percent(30) => self.turn().into_bytes(),
+            _ if !self.run_active && random.percent(BEGIN_PERCENT) => self.turn().into_bytes(),
             _ => self.row_line(random).into_bytes(),
         }
     }

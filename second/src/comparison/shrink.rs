@@ -10,6 +10,7 @@ use std::collections::BTreeSet;
 use std::ops::RangeInclusive;
 
 const SMALL_WORDS: RangeInclusive<i64> = 1..=9;
+const SIMPLEST_WORDS: [i64; 5] = [0, 1, -1, 2, 3];
 const MOST_TRIES: usize = 4_000;
 /// A case on which a call does not end takes long to try.
 const MOST_ENDINGS: usize = 6;
@@ -217,7 +218,7 @@ fn renamed(mut case: Case, old: i64, new: i64) -> Case {
 
 /// Words that are simpler than this one, the simplest first.
 fn smaller_words(word: i64) -> Vec<i64> {
-    let mut words = vec![0, 1, -1, 2, 3];
+    let mut words = SIMPLEST_WORDS.to_vec();
     words.extend([word / 2, word.saturating_sub(word.signum())]);
     let simpler = words.iter().take_while(|&&smaller| smaller != word);
     simpler.copied().collect()

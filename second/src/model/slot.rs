@@ -13,7 +13,7 @@ pub const DELETE: i64 = 3;
 
 pub type Totals = [i64; 2];
 
-const NULLS: Totals = [0, 0];
+pub const NULLS: Totals = [0, 0];
 
 #[derive(Clone, Copy, PartialEq, Eq, PartialOrd, Ord, Debug)]
 pub struct Key {
