@@ -3,8 +3,8 @@
 use crate::cases::edges;
 use crate::cases::random::Random;
 use crate::model::block::{
-    self, BLOCK_BYTES, BLOCK_WORDS, Block, CHECK, FIRST_FILLER, HEADER_CURRENT,
-    HEADER_FIRST_FILLER, HEADER_SLOTS, SLOT_HALVES,
+    self, BLOCK_BYTES, BLOCK_WORDS, Block, CHECK, FIRST_FILLER, FIRST_SLOT, HEADER_CURRENT,
+    HEADER_FIRST_FILLER, HEADER_SLOTS, NUMBER, SLOT_HALVES,
 };
 use crate::model::record::LARGEST_VERSION;
 use crate::model::slot::Slot;
@@ -78,7 +78,7 @@ pub fn header(random: &mut Random) -> Vec<u8> {
 /// A block of the slots as bytes, sound or damaged, for a table of so many slots.
 pub fn of_slots(random: &mut Random, number: usize, slots: usize, held: &[Slot]) -> Vec<u8> {
     let block = Block::of_slots(number, held);
-    let first_beyond = 1 + block::places(number, slots).len() * SLOT_HALVES;
+    let first_beyond = FIRST_SLOT + block::places(number, slots).len() * SLOT_HALVES;
     damaged(random, block, FIRST_FILLER, first_beyond)
 }
 
@@ -87,12 +87,12 @@ fn damaged(random: &mut Random, block: Block, first_filler: usize, first_beyond:
     match random.weighted(&DAMAGES) {
         Damage::None => {}
         Damage::AlteredWord => {
-            alter(random, &mut block, 0, BLOCK_WORDS);
+            alter(random, &mut block, NUMBER, BLOCK_WORDS);
             return block.bytes();
         }
-        Damage::AlteredWordMended => alter(random, &mut block, 0, CHECK),
+        Damage::AlteredWordMended => alter(random, &mut block, NUMBER, CHECK),
         Damage::SwappedWords => block.words.swap(random.below(CHECK), random.below(CHECK)),
-        Damage::WrongNumber => alter(random, &mut block, 0, 1),
+        Damage::WrongNumber => alter(random, &mut block, NUMBER, FIRST_SLOT),
         Damage::Filler => alter(random, &mut block, first_filler, CHECK),
         Damage::BeyondTheTable => alter(random, &mut block, first_beyond, CHECK),
         Damage::Length => {
@@ -111,7 +111,7 @@ fn alter(random: &mut Random, block: &mut Block, first: usize, end: usize) {
     let place = first + random.below(end - first);
     let word = block.words[place];
     block.words[place] = match random.below(4) {
-        0 => word ^ (1 << random.below(32)),
+        0 => word ^ (1 << random.below(u32::BITS as usize)),
         1 => word.wrapping_add(1),
         2 => word.wrapping_sub(1),
         _ => edges::word(random) as u32,

@@ -1,25 +1,25 @@
 //! Document 01's figures, by which the model itself is held to the document.
 
 use crate::cases::case::Case;
-use crate::model::block::{BLOCK_BYTES, Block};
+use crate::model::block::{BLOCK_BYTES, Block, HALF_BYTES};
 use crate::model::call::{Call, Lent, OUT_WORDS, out_words};
 use crate::model::outcome::make_call;
 use crate::model::record::VersionRecord;
-use crate::model::slot::{Key, LARGEST_TOTAL};
+use crate::model::slot::{Key, LARGEST_TOTAL, SLOT_WORDS};
 use crate::model::steps;
 use crate::model::table::Table;
 
 /// The source's Figure 4, and an empty slot.
-const FIGURE_4: [[i64; 8]; 5] = [
+const FIGURE_4: [[i64; SLOT_WORDS]; 5] = [
     [3, 1, 1, 19_961_014, 10_000, 0, 0, 0],
     [4, 1, 1, 19_961_015, 1_500, 0, 0, 0],
     [4, 2, 2, 19_961_014, 12_000, 0, 10_000, 0],
     [4, 3, 3, 19_961_013, 8_000, 0, 8_000, 0],
-    [0; 8],
+    [0; SLOT_WORDS],
 ];
 
 /// Figure 6, with the places that slots are taken in.
-const FIGURE_6: [[i64; 8]; 5] = [
+const FIGURE_6: [[i64; SLOT_WORDS]; 5] = [
     [5, 2, 1, 19_961_014, 10_200, 0, 10_000, 0],
     [4, 1, 1, 19_961_015, 1_500, 0, 0, 0],
     [5, 3, 2, 19_961_014, 12_000, 0, 12_000, 0],
@@ -103,7 +103,7 @@ fn held_to(figure: Figure) -> Result<Case, String> {
                 out_words(&outcome).as_slice() == out
             }
             Gives::Check(check) => {
-                call.left_block(&outcome)[BLOCK_BYTES - 4..] == check.to_le_bytes()
+                call.left_block(&outcome)[BLOCK_BYTES - HALF_BYTES..] == check.to_le_bytes()
             }
         };
         if !right {
@@ -202,7 +202,11 @@ fn changes_of_figure_5() -> Figure {
 }
 
 fn net_effects() -> Figure {
-    let end = [[3, 2, 1, 1, 7, 0, 6, 0], [3, 1, 2, 2, 9, 0, 0, 0], [0; 8]];
+    let end = [
+        [3, 2, 1, 1, 7, 0, 6, 0],
+        [3, 1, 2, 2, 9, 0, 0, 0],
+        [0; SLOT_WORDS],
+    ];
     Figure {
         start: Lent::fresh(3),
         calls: vec![

@@ -9,6 +9,12 @@ use std::process::{Child, ChildStdin, ChildStdout, Command, Stdio};
 const WORD_BYTES: usize = 8;
 const GUARDS_STAND: i64 = 0;
 
+/// Where the parts of an answer begin, in words. The block follows the table.
+const GUARDS_AT: usize = 0;
+const OUT_AT: usize = 1;
+const RECORD_AT: usize = OUT_AT + OUT_WORDS;
+const TABLE_AT: usize = RECORD_AT + RECORD_WORDS;
+
 /// Everything that a call left.
 #[derive(Clone, PartialEq, Eq, Debug)]
 pub struct Left {
@@ -139,18 +145,16 @@ fn word(answer: &[u8], index: usize) -> i64 {
 
 /// The eight words of an answer.
 pub fn out_of(answer: &[u8]) -> Out {
-    std::array::from_fn(|index| word(answer, 1 + index))
+    std::array::from_fn(|index| word(answer, OUT_AT + index))
 }
 
 /// Parts an answer to a call that was lent a table and a block of these lengths.
 pub fn part_answer(answer: &[u8], words: usize, bytes: usize) -> Left {
-    let record_at = 1 + OUT_WORDS;
-    let table_at = record_at + RECORD_WORDS;
-    let block_at = (table_at + words) * WORD_BYTES;
-    let record = std::array::from_fn(|index| word(answer, record_at + index));
-    let table = (0..words).map(|index| word(answer, table_at + index));
+    let block_at = (TABLE_AT + words) * WORD_BYTES;
+    let record = std::array::from_fn(|index| word(answer, RECORD_AT + index));
+    let table = (0..words).map(|index| word(answer, TABLE_AT + index));
     Left {
-        guards_stand: word(answer, 0) == GUARDS_STAND,
+        guards_stand: word(answer, GUARDS_AT) == GUARDS_STAND,
         out: out_of(answer),
         lent: Lent {
             table: Table {

@@ -9,16 +9,19 @@ pub const BLOCK_BYTES: usize = 512;
 pub const BLOCK_WORDS: usize = 128;
 pub const SLOTS_IN_A_BLOCK: usize = 7;
 
+pub const NUMBER: usize = 0;
+pub const FIRST_SLOT: usize = 1;
 pub const CHECK: usize = 127;
 pub const FIRST_FILLER: usize = 113;
 pub const HEADER_SLOTS: usize = 1;
 pub const HEADER_CURRENT: usize = 2;
 pub const HEADER_FIRST_FILLER: usize = 3;
-pub const SLOT_HALVES: usize = 2 * SLOT_WORDS;
+pub const SLOT_HALVES: usize = WORD_HALVES * SLOT_WORDS;
+pub const HALF_BYTES: usize = 4;
 
-const HALF_BYTES: usize = 4;
+const WORD_HALVES: usize = 2;
 
-/// A block as its 128 words.
+/// A block as its 128 words. Each is half of a word of the table.
 #[derive(Clone, Copy, PartialEq, Eq, Debug)]
 pub struct Block {
     pub words: [u32; BLOCK_WORDS],
@@ -53,11 +56,12 @@ impl Block {
     /// A block of slots, seven at the most.
     pub fn of_slots(number: usize, slots: &[Slot]) -> Block {
         let mut block = Block::zeros();
-        block.words[0] = number as u32;
+        block.words[NUMBER] = number as u32;
         let words = slots.iter().flat_map(Slot::words);
-        for (halves, word) in block.words[1..CHECK].chunks_exact_mut(2).zip(words) {
+        let pairs = block.words[FIRST_SLOT..CHECK].chunks_exact_mut(WORD_HALVES);
+        for (halves, word) in pairs.zip(words) {
             halves[0] = word as u32;
-            halves[1] = (word >> 32) as u32;
+            halves[1] = (word >> u32::BITS) as u32;
         }
         block.mend();
         block
@@ -74,7 +78,7 @@ impl Block {
     }
 
     pub fn bytes(&self) -> Vec<u8> {
-        self.words.iter().flat_map(|w| w.to_le_bytes()).collect()
+        self.words.map(u32::to_le_bytes).concat()
     }
 
     /// Refusals 14 and 15.
@@ -100,7 +104,7 @@ impl Block {
     pub fn read_header(&self) -> Result<(usize, i64), Refusal> {
         let slots = self.words[HEADER_SLOTS] as usize;
         let current = i64::from(self.words[HEADER_CURRENT]);
-        let allowed = self.words[0] == 0
+        let allowed = self.words[NUMBER] == 0
             && (1..=MOST_SLOTS).contains(&slots)
             && (1..=LARGEST_VERSION).contains(&current)
             && self.is_zero_from(HEADER_FIRST_FILLER);
@@ -111,10 +115,10 @@ impl Block {
     }
 
     fn slot(&self, index: usize) -> Slot {
-        let halves = &self.words[1 + index * SLOT_HALVES..][..SLOT_HALVES];
+        let halves = &self.words[FIRST_SLOT + index * SLOT_HALVES..][..SLOT_HALVES];
         let words: Vec<i64> = halves
-            .chunks_exact(2)
-            .map(|half| i64::from(half[0]) | (i64::from(half[1]) << 32))
+            .chunks_exact(WORD_HALVES)
+            .map(|pair| i64::from(pair[0]) | (i64::from(pair[1]) << u32::BITS))
             .collect();
         Slot::from_words(&words)
     }
@@ -128,8 +132,8 @@ impl Block {
     ) -> Result<Vec<Slot>, Refusal> {
         let held = places(number, slots).len();
         let read: Vec<Slot> = (0..held).map(|index| self.slot(index)).collect();
-        let allowed = self.words[0] as usize == number
-            && self.is_zero_from(1 + held * SLOT_HALVES)
+        let allowed = self.words[NUMBER] as usize == number
+            && self.is_zero_from(FIRST_SLOT + held * SLOT_HALVES)
             && read.iter().all(|slot| slot.is_well_formed(version));
         if !allowed {
             return Err(Refusal::BlockField);

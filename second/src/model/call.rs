@@ -1,6 +1,6 @@
 //! The calls, their answers, and the numbers that a C caller gets.
 
-use crate::model::block::{BLOCK_BYTES, Block};
+use crate::model::block::{BLOCK_BYTES, Block, HALF_BYTES};
 use crate::model::record::VersionRecord;
 use crate::model::refusal::Refusal;
 use crate::model::slot::{Key, Row, Totals};
@@ -8,9 +8,13 @@ use crate::model::table::Table;
 use std::fmt;
 
 pub const OUT_WORDS: usize = 8;
+pub const CALL_NUMBERS: usize = 4;
 
 /// The eight words that every call leaves.
 pub type Out = [i64; OUT_WORDS];
+
+/// The numbers of a call in the order of the C function, unused ones zero.
+pub type Numbers = [i64; CALL_NUMBERS];
 
 /// What a caller lends: the table and the record.
 #[derive(Clone, PartialEq, Eq, Debug)]
@@ -117,8 +121,7 @@ impl Call {
         }
     }
 
-    /// The call's numbers in the order of the C function, unused ones zero.
-    pub fn numbers(&self) -> [i64; 4] {
+    pub fn numbers(&self) -> Numbers {
         match *self {
             Call::ReadSlot { session, slot } => [session, slot as i64, 0, 0],
             Call::ReadKey { session, key } => [session, key.one, key.two, 0],
@@ -128,31 +131,42 @@ impl Call {
             }
             Call::Delete { key } => [key.one, key.two, 0, 0],
             Call::SaveBlock { number } | Call::LoadBlock { number, .. } => [number as i64, 0, 0, 0],
-            _ => [0; 4],
+            _ => [0; CALL_NUMBERS],
         }
     }
 
     /// The same call with other numbers.
-    pub fn with_numbers(&self, numbers: [i64; 4]) -> Call {
-        let [a, b, c, d] = numbers;
-        let key = Key { one: a, two: b };
-        let totals = [c, d];
+    pub fn with_numbers(&self, numbers: Numbers) -> Call {
+        let [first, second, third, fourth] = numbers;
+        let key = Key {
+            one: first,
+            two: second,
+        };
+        let totals = [third, fourth];
         match self.clone() {
             Call::ReadSlot { .. } => Call::ReadSlot {
-                session: a,
-                slot: b as u64,
+                session: first,
+                slot: second as u64,
             },
             Call::ReadKey { .. } => Call::ReadKey {
-                session: a,
-                key: Key { one: b, two: c },
+                session: first,
+                key: Key {
+                    one: second,
+                    two: third,
+                },
             },
-            Call::RollUp { .. } => Call::RollUp { session: a, one: b },
+            Call::RollUp { .. } => Call::RollUp {
+                session: first,
+                one: second,
+            },
             Call::Insert { .. } => Call::Insert { key, totals },
             Call::Update { .. } => Call::Update { key, totals },
             Call::Delete { .. } => Call::Delete { key },
-            Call::SaveBlock { .. } => Call::SaveBlock { number: a as u64 },
+            Call::SaveBlock { .. } => Call::SaveBlock {
+                number: first as u64,
+            },
             Call::LoadBlock { block, .. } => Call::LoadBlock {
-                number: a as u64,
+                number: first as u64,
                 block,
             },
             other => other,
@@ -201,40 +215,44 @@ pub fn out_words(outcome: &Outcome) -> Out {
 }
 
 impl fmt::Display for Call {
-    fn fmt(&self, f: &mut fmt::Formatter<'_>) -> fmt::Result {
+    fn fmt(&self, to: &mut fmt::Formatter<'_>) -> fmt::Result {
         match self {
-            Call::ReadSlot { session, slot } => write!(f, "read slot {slot} at session {session}"),
+            Call::ReadSlot { session, slot } => write!(to, "read slot {slot} at session {session}"),
             Call::ReadKey { session, key } => {
-                write!(f, "read key {} {} at session {session}", key.one, key.two)
+                write!(to, "read key {} {} at session {session}", key.one, key.two)
             }
-            Call::RollUp { session, one } => write!(f, "roll-up of {one} at session {session}"),
+            Call::RollUp { session, one } => write!(to, "roll-up of {one} at session {session}"),
             Call::Insert { key, totals } | Call::Update { key, totals } => {
                 let name = format!("{:?}", self.kind()).to_lowercase();
                 let [first, second] = totals;
-                write!(f, "{name} {} {}, totals {first} {second}", key.one, key.two)
+                write!(
+                    to,
+                    "{name} {} {}, totals {first} {second}",
+                    key.one, key.two
+                )
             }
-            Call::Delete { key } => write!(f, "delete {} {}", key.one, key.two),
-            Call::SaveHeader => write!(f, "save header"),
-            Call::SaveBlock { number } => write!(f, "save block {number}"),
-            Call::LoadHeader { block } => write!(f, "load header from {}", shown(block)),
+            Call::Delete { key } => write!(to, "delete {} {}", key.one, key.two),
+            Call::SaveHeader => write!(to, "save header"),
+            Call::SaveBlock { number } => write!(to, "save block {number}"),
+            Call::LoadHeader { block } => write!(to, "load header from {}", shown(block)),
             Call::LoadBlock { number, block } => {
-                write!(f, "load block {number} from {}", shown(block))
+                write!(to, "load block {number} from {}", shown(block))
             }
-            _ => write!(f, "{}", format!("{:?}", self.kind()).to_lowercase()),
+            _ => write!(to, "{}", format!("{:?}", self.kind()).to_lowercase()),
         }
     }
 }
 
 /// A block's length and its nonzero words.
 fn shown(block: &[u8]) -> String {
-    let words = block.chunks(4).enumerate();
+    let words = block.chunks(HALF_BYTES).enumerate();
     let nonzero = words.filter(|(_, four)| four.iter().any(|&byte| byte != 0));
     let listed: Vec<String> = nonzero
         .map(|(index, four)| {
             let value = four
                 .iter()
                 .rev()
-                .fold(0, |sum: u32, &b| sum << 8 | u32::from(b));
+                .fold(0, |sum: u32, &byte| sum << u8::BITS | u32::from(byte));
             format!("{index}={value}")
         })
         .collect();
