@@ -1,16 +1,43 @@
-// The library's calls written by hand in C, as a careful C programmer would: one pass over the table, no copy, every test that
-// the library makes and in its order.
+// The library's calls written by hand in C, as a careful C programmer would: one slot a turn, every test that the library makes and
+// in its order. Where the low byte of a word comes first in memory, a slot stands in a block as it stands in the table, so a save
+// tests each slot and writes it to its place in one walk, and a load tests the block's slots where they are and then moves them to
+// the table; nothing is copied to another place in between.
 #include "hand.h"
 
 #include <stdbool.h>
 #include <string.h>
 
-enum { SLOT_WORDS = 8, MOST_WORDS = 8192, OUT_WORDS = 8, BLOCK_SLOTS = 7, BLOCK_WORDS = 128, BLOCK_BYTES = 512, FILLER = 113, CHECK = 127 };
+_Static_assert(__BYTE_ORDER__ == __ORDER_LITTLE_ENDIAN__, "a slot of a block has the bytes of a slot of the table");
+
+enum { SLOT_WORDS = 8, SLOT_HALVES = 16, MOST_WORDS = 8192, OUT_WORDS = 8, HALF_BITS = 32 };
+enum { BLOCK_SLOTS = 7, BLOCK_BYTES = 512, NUMBER = 0, FIRST_SLOT = 1, FILLER = 113, CHECK = 127 };
 enum { RUN, OPERATION, KEY_ONE, KEY_TWO, CURRENT_ONE, CURRENT_TWO, OLD_ONE, OLD_TWO };
 enum { EMPTY, INSERT, UPDATE, DELETE };
+enum {
+    BAD_TABLE = 1,
+    BAD_RECORD,
+    NO_SUCH_VERSION,
+    EXPIRED,
+    NO_SUCH_PLACE,
+    BROKEN_SLOT,
+    RUN_ACTIVE,
+    NO_RUN,
+    NO_VERSION_LEFT,
+    KEY_LIVE,
+    KEY_NOT_LIVE,
+    TABLE_FULL,
+    BAD_TOTAL,
+    NOT_BLOCK,
+    WRONG_CHECK,
+    BAD_FIELD
+};
 
 static const int64_t LARGEST_VERSION = 1000000000;
 static const int64_t LARGEST_TOTAL = 1000000000000000;
+
+// A word of a slot, and half of one, wherever they stand: in a block they are not aligned.
+typedef int64_t Word __attribute__((aligned(1), may_alias));
+typedef uint32_t Half __attribute__((aligned(1), may_alias));
 
 typedef struct {
     int64_t current;
@@ -36,19 +63,19 @@ static bool bad_version(Version v) {
 
 static bool lawful(int64_t total) { return -LARGEST_TOTAL <= total && total <= LARGEST_TOTAL; }
 
-static bool all_zeros(const int64_t *x) { return (x[0] | x[1] | x[2] | x[3] | x[4] | x[5] | x[6] | x[7]) == 0; }
+static bool all_zeros(const Word *x) { return (x[0] | x[1] | x[2] | x[3] | x[4] | x[5] | x[6] | x[7]) == 0; }
 
-static bool well_formed(const int64_t *x, Version v) {
+static bool well_formed(const Word *x, Version v) {
     if (x[OPERATION] == EMPTY) return all_zeros(x);
     return x[OPERATION] >= INSERT && x[OPERATION] <= DELETE && x[RUN] >= 1 && x[RUN] <= v.current + v.active && lawful(x[CURRENT_ONE]) &&
            lawful(x[CURRENT_TWO]) && lawful(x[OLD_ONE]) && lawful(x[OLD_TWO]) && (x[OPERATION] != INSERT || (x[OLD_ONE] | x[OLD_TWO]) == 0);
 }
 
 static int64_t session_refusal(size_t words, Version v, int64_t session) {
-    if (bad_table(words)) return 1;
-    if (bad_version(v)) return 2;
-    if (session < 1 || session > v.current) return 3;
-    if (session < v.current - 1 || (v.active && session == v.current - 1)) return 4;
+    if (bad_table(words)) return BAD_TABLE;
+    if (bad_version(v)) return BAD_RECORD;
+    if (session < 1 || session > v.current) return NO_SUCH_VERSION;
+    if (session < v.current - 1 || (v.active && session == v.current - 1)) return EXPIRED;
     return 0;
 }
 
@@ -75,7 +102,7 @@ static bool seen(const int64_t *x, int64_t session, int64_t *first, int64_t *sec
 
 static void show(const int64_t *x, Version v, int64_t session, int64_t out[8]) {
     if (!well_formed(x, v)) {
-        clear(out, 6);
+        clear(out, BROKEN_SLOT);
         return;
     }
     int64_t first, second;
@@ -91,7 +118,7 @@ static void show(const int64_t *x, Version v, int64_t session, int64_t out[8]) {
 void hand_read_slot(const int64_t *table, size_t words, const int64_t record[4], int64_t session, size_t slot, int64_t out[8]) {
     Version v = version_of(record);
     int64_t refusal = session_refusal(words, v, session);
-    if (refusal == 0 && slot >= words / SLOT_WORDS) refusal = 5;
+    if (refusal == 0 && slot >= words / SLOT_WORDS) refusal = NO_SUCH_PLACE;
     if (refusal != 0) {
         clear(out, refusal);
         return;
@@ -121,7 +148,7 @@ void hand_roll_up(const int64_t *table, size_t words, const int64_t record[4], i
         const int64_t *x = table + k * SLOT_WORDS;
         int64_t first, second;
         if (!well_formed(x, v)) {
-            refusal = 6;
+            refusal = BROKEN_SLOT;
         } else if (x[KEY_ONE] == one && seen(x, session, &first, &second)) {
             count++;
             sum_one += first;
@@ -136,16 +163,21 @@ void hand_roll_up(const int64_t *table, size_t words, const int64_t record[4], i
 }
 
 static int64_t change_refusal(size_t words, Version v, int64_t first, int64_t second) {
-    if (bad_table(words)) return 1;
-    if (bad_version(v)) return 2;
-    if (!v.active) return 8;
-    if (!lawful(first) || !lawful(second)) return 13;
+    if (bad_table(words)) return BAD_TABLE;
+    if (bad_version(v)) return BAD_RECORD;
+    if (!v.active) return NO_RUN;
+    if (!lawful(first) || !lawful(second)) return BAD_TOTAL;
     return 0;
 }
 
 static void put_new(int64_t *x, int64_t run, int64_t one, int64_t two, int64_t first, int64_t second) {
-    const int64_t row[SLOT_WORDS] = {run, INSERT, one, two, first, second, 0, 0};
-    memcpy(x, row, sizeof row);
+    x[RUN] = run;
+    x[OPERATION] = INSERT;
+    x[KEY_ONE] = one;
+    x[KEY_TWO] = two;
+    x[CURRENT_ONE] = first;
+    x[CURRENT_TWO] = second;
+    x[OLD_ONE] = x[OLD_TWO] = 0;
 }
 
 static size_t free_slot(const int64_t *table, size_t slots, Version v) {
@@ -166,9 +198,9 @@ void hand_insert(int64_t *table, size_t words, const int64_t record[4], int64_t 
     if (k < slots) {
         int64_t *x = table + k * SLOT_WORDS;
         if (!well_formed(x, v)) {
-            out[0] = 6;
+            out[0] = BROKEN_SLOT;
         } else if (x[OPERATION] != DELETE) {
-            out[0] = 10;
+            out[0] = KEY_LIVE;
         } else if (x[RUN] < run) {
             put_new(x, run, one, two, first, second);
         } else {
@@ -179,7 +211,7 @@ void hand_insert(int64_t *table, size_t words, const int64_t record[4], int64_t 
     } else {
         k = free_slot(table, slots, v);
         if (k == slots)
-            out[0] = 12;
+            out[0] = TABLE_FULL;
         else
             put_new(table + k * SLOT_WORDS, run, one, two, first, second);
     }
@@ -190,11 +222,11 @@ void hand_insert(int64_t *table, size_t words, const int64_t record[4], int64_t 
 static int64_t *live_slot(int64_t *table, size_t words, Version v, int64_t one, int64_t two, int64_t out[8]) {
     size_t slots = words / SLOT_WORDS, k = key_slot(table, slots, one, two);
     if (k == slots) {
-        out[0] = 11;
+        out[0] = KEY_NOT_LIVE;
         return NULL;
     }
     int64_t *x = table + k * SLOT_WORDS;
-    out[0] = !well_formed(x, v) ? 6 : x[OPERATION] == DELETE ? 11 : 0;
+    out[0] = !well_formed(x, v) ? BROKEN_SLOT : x[OPERATION] == DELETE ? KEY_NOT_LIVE : 0;
     if (out[0] != 0) return NULL;
     out[1] = (int64_t)k;
     return x;
@@ -235,10 +267,10 @@ void hand_delete(int64_t *table, size_t words, const int64_t record[4], int64_t 
 }
 
 static int64_t block_refusal(size_t words, Version v, size_t number) {
-    if (bad_table(words)) return 1;
-    if (bad_version(v)) return 2;
-    if (v.active) return 7;
-    if (number < 1 || number > (words / SLOT_WORDS + BLOCK_SLOTS - 1) / BLOCK_SLOTS) return 5;
+    if (bad_table(words)) return BAD_TABLE;
+    if (bad_version(v)) return BAD_RECORD;
+    if (v.active) return RUN_ACTIVE;
+    if (number < 1 || number > (words / SLOT_WORDS + BLOCK_SLOTS - 1) / BLOCK_SLOTS) return NO_SUCH_PLACE;
     return 0;
 }
 
@@ -248,58 +280,64 @@ static size_t slots_in(size_t words, size_t number) {
     return left < BLOCK_SLOTS ? left : BLOCK_SLOTS;
 }
 
-void hand_save_block(const int64_t *table, size_t words, const int64_t record[4], size_t number, uint8_t block[512], int64_t out[8]) {
-    Version v = version_of(record);
-    clear(out, block_refusal(words, v, number));
-    memset(block, 0, BLOCK_BYTES);
-    if (out[0] != 0) return;
-    const int64_t *from = table + BLOCK_SLOTS * (number - 1) * SLOT_WORDS;
-    size_t held = slots_in(words, number);
-    for (size_t j = 0; j < held; j++)
-        if (!well_formed(from + j * SLOT_WORDS, v)) {
-            out[0] = 6;
-            return;
-        }
-    uint32_t halves[BLOCK_WORDS] = {(uint32_t)number}, check = 0;
-    for (size_t i = 0; i < held * SLOT_WORDS; i++) {
-        halves[1 + 2 * i] = (uint32_t)(uint64_t)from[i];
-        halves[2 + 2 * i] = (uint32_t)((uint64_t)from[i] >> 32);
+// A slot written to its place in a block; answers the sum of its halves.
+static uint32_t put_slot(Word *restrict to, const int64_t *restrict x) {
+    uint32_t sum = 0;
+    for (size_t i = 0; i < SLOT_WORDS; i++) {
+        to[i] = x[i];
+        sum += (uint32_t)x[i] + (uint32_t)((uint64_t)x[i] >> HALF_BITS);
     }
-    for (size_t i = 0; i < CHECK; i++) check += halves[i];
-    halves[CHECK] = check;
-    for (size_t i = 0; i < BLOCK_WORDS; i++)
-        for (size_t b = 0; b < 4; b++) block[4 * i + b] = (uint8_t)(halves[i] >> (8 * b));
+    return sum;
 }
 
-static uint32_t half_at(const uint8_t *block, size_t i) {
-    const uint8_t *b = block + 4 * i;
-    return b[0] | (uint32_t)b[1] << 8 | (uint32_t)b[2] << 16 | (uint32_t)b[3] << 24;
+// A block made where it is wanted: its number, its slots, each tested and then written, zeros up to the check, and the check.
+static int64_t save_slots(const int64_t *restrict from, size_t held, Version v, size_t number, Half *restrict halves) {
+    Word *to = (Word *)(halves + FIRST_SLOT);
+    uint32_t check = (uint32_t)number;
+    for (size_t j = 0; j < held; j++, from += SLOT_WORDS, to += SLOT_WORDS) {
+        if (!well_formed(from, v)) return BROKEN_SLOT;
+        check += put_slot(to, from);
+    }
+    size_t written = FIRST_SLOT + held * SLOT_HALVES;
+    halves[NUMBER] = (uint32_t)number;
+    memset(halves + written, 0, (CHECK - written) * sizeof(Half));
+    halves[CHECK] = check;
+    return 0;
+}
+
+void hand_save_block(const int64_t *table, size_t words, const int64_t record[4], size_t number, uint8_t block[512], int64_t out[8]) {
+    Version v = version_of(record);
+    int64_t refusal = block_refusal(words, v, number);
+    if (refusal == 0) refusal = save_slots(table + BLOCK_SLOTS * (number - 1) * SLOT_WORDS, slots_in(words, number), v, number, (Half *)block);
+    if (refusal != 0) memset(block, 0, BLOCK_BYTES);
+    clear(out, refusal);
+}
+
+static bool check_wrong(const Half *halves) {
+    uint32_t total = 0;
+    for (size_t i = 0; i < CHECK; i++) total += halves[i];
+    return total != halves[CHECK];
+}
+
+// Whether a field of a block is not allowed; its slots are tested where they stand.
+static bool field_wrong(const Half *halves, size_t number, size_t held, Version v) {
+    uint32_t filler = 0;
+    for (size_t i = FILLER; i < CHECK; i++) filler |= halves[i];
+    if (halves[NUMBER] != number || filler != 0) return true;
+    const Word *x = (const Word *)(halves + FIRST_SLOT);
+    for (size_t j = 0; j < BLOCK_SLOTS; j++, x += SLOT_WORDS)
+        if (j < held ? !well_formed(x, v) : !all_zeros(x)) return true;
+    return false;
 }
 
 void hand_load_block(int64_t *table, size_t words, const int64_t record[4], size_t number, const uint8_t *block, size_t bytes, int64_t out[8]) {
     Version v = version_of(record);
-    clear(out, block_refusal(words, v, number));
-    if (out[0] != 0) return;
-    if (bytes != BLOCK_BYTES) {
-        out[0] = 14;
-        return;
-    }
-    uint32_t halves[BLOCK_WORDS], check = 0;
-    for (size_t i = 0; i < BLOCK_WORDS; i++) halves[i] = half_at(block, i);
-    for (size_t i = 0; i < CHECK; i++) check += halves[i];
-    if (check != halves[CHECK]) {
-        out[0] = 15;
-        return;
-    }
-    int64_t slots[BLOCK_SLOTS * SLOT_WORDS];
-    for (size_t i = 0; i < BLOCK_SLOTS * SLOT_WORDS; i++) slots[i] = (int64_t)(halves[1 + 2 * i] | (uint64_t)halves[2 + 2 * i] << 32);
-    bool wrong = halves[0] != number;
-    for (size_t i = FILLER; i < CHECK; i++) wrong |= halves[i] != 0;
-    size_t held = slots_in(words, number);
-    for (size_t j = 0; j < BLOCK_SLOTS; j++) wrong |= j < held ? !well_formed(slots + j * SLOT_WORDS, v) : !all_zeros(slots + j * SLOT_WORDS);
-    if (wrong) {
-        out[0] = 16;
-        return;
-    }
-    memcpy(table + BLOCK_SLOTS * (number - 1) * SLOT_WORDS, slots, held * SLOT_WORDS * sizeof(int64_t));
+    const Half *halves = (const Half *)block;
+    int64_t refusal = block_refusal(words, v, number);
+    if (refusal == 0 && bytes != BLOCK_BYTES) refusal = NOT_BLOCK;
+    if (refusal == 0 && check_wrong(halves)) refusal = WRONG_CHECK;
+    if (refusal == 0 && field_wrong(halves, number, slots_in(words, number), v)) refusal = BAD_FIELD;
+    clear(out, refusal);
+    if (refusal != 0) return;
+    memcpy(table + BLOCK_SLOTS * (number - 1) * SLOT_WORDS, halves + FIRST_SLOT, slots_in(words, number) * SLOT_WORDS * sizeof(int64_t));
 }
