@@ -1,209 +1,270 @@
-// Times each call of the library against the same call written by hand in C, and against what a user would pick instead: all in
-// one process, the sides by turns, a median of many rounds for each. Before it is timed, each side's answer is compared.
+// Times each call of the library against the same call written by hand in C, and the reads against what a user would pick instead:
+// all in one process, the sides by turns, a median of many rounds for each. Before it is timed, each side's answer is compared.
+#include <pthread.h>
 #include <stdio.h>
 #include <stdlib.h>
 #include <string.h>
-#include <time.h>
 
 #include "../second/probe.h"
 #include "hand.h"
-#include "others.h"
+#include "lent.h"
+#include "stores.h"
+#include "timing.h"
 
-enum { ROUNDS = 301, SIDES = 5, MOST_SLOTS = 1024, SLOT = 8, BATCH_NANOSECONDS = 20000, SESSION = 4 };
-enum { PROBE, HAND, LOCKED, SQLITE, LMDB };
+enum { RECORD_WORDS = 4, NAME_BYTES = 64, FEW = 8, SOME = 64, MANY = 1024, GROUP = 3, BLOCK = 1 };
+enum { NEW_FIRST = 1, NEW_SECOND = 2, CHANGED_SLOT = 1 };
 
-static const int64_t IDLE[4] = {SESSION, 0, 0, 0}, ACTIVE[4] = {SESSION, 1, 0, 0};
+static const int64_t IDLE[RECORD_WORDS] = {CURRENT, 0, 0, 0}, ACTIVE[RECORD_WORDS] = {CURRENT, 1, 0, 0};
 
-// What a case works on.
-static int64_t table[MOST_SLOTS * SLOT], spare[MOST_SLOTS * SLOT], out[8], one, two, totals[2];
-static size_t slots, words;
-static uint8_t block[512];
-static Sums sums;
-static volatile int64_t sink;
+static const struct {
+    const char *name;
+    int64_t version;
+} SESSIONS[] = {{"current", CURRENT}, {"current - 1", CURRENT - 1}};
 
-typedef void Body(void);
+static const Kind KINDS[] = {UNIFORM, MIXED};
+static const char *folder;
+static const Store *stores[SIDES];
+static pthread_rwlock_t lock = PTHREAD_RWLOCK_INITIALIZER;
 
-static double now(void) {
-    struct timespec t;
-    clock_gettime(CLOCK_MONOTONIC, &t);
-    return (double)t.tv_sec * 1e9 + (double)t.tv_nsec;
-}
+const char *columns[SIDES] = {"library", "C", "lock + C"};
 
-static double timed(Body *body, long repeats) {
-    double from = now();
-    for (long i = 0; i < repeats; i++) body();
-    return (now() - from) / (double)repeats;
-}
+#define COUNT_OF(list) (sizeof(list) / sizeof *(list))
 
-static int by_size(const void *a, const void *b) {
-    double x = *(const double *)a, y = *(const double *)b;
-    return (x > y) - (x < y);
-}
-
-static double median(double *times) {
-    qsort(times, ROUNDS, sizeof *times, by_size);
-    return times[ROUNDS / 2];
-}
-
-// One line: the medians of the sides that the case has, and the library's as a share of each.
-static void measure(const char *name, Body *const sides[SIDES]) {
-    static double times[SIDES][ROUNDS];
-    double first = timed(sides[PROBE], 100);
-    long repeats = first > BATCH_NANOSECONDS ? 1 : (long)(BATCH_NANOSECONDS / first) + 1;
-    for (int r = 0; r < ROUNDS; r++)
-        for (int s = 0; s < SIDES; s++)
-            if (sides[s] != NULL) times[s][r] = timed(sides[s], repeats);
-    double middle[SIDES];
-    printf("%-34s", name);
-    for (int s = 0; s < SIDES; s++) {
-        if (sides[s] == NULL) {
-            printf(" %18s", "");
-            continue;
-        }
-        middle[s] = median(times[s]);
-        if (s == PROBE)
-            printf(" %9.1f", middle[s]);
-        else
-            printf(" %9.1f (%5.2f)", middle[s], middle[PROBE] / middle[s]);
-    }
-    printf("\n");
-}
-
-static void fill(size_t count) {
-    slots = count;
-    words = count * SLOT;
-    memset(table, 0, sizeof table);
-    for (size_t k = 0; k < count; k++) {
-        int64_t row[SLOT] = {2, 1, (int64_t)(k % GROUPS), (int64_t)k, (int64_t)k, -(int64_t)k, 0, 0};
-        memcpy(table + k * SLOT, row, sizeof row);
-    }
-    memcpy(spare, table, sizeof table);
-}
-
-// ---- the bodies
-static void probe_key(void) { probe_read_key(table, words, IDLE, SESSION, one, two, out); }
-static void hand_key(void) { hand_read_key(table, words, IDLE, SESSION, one, two, out); }
-static void locked_key(void) { locked_read_key(table, words, IDLE, SESSION, one, two, out); }
-static void sqlite_key(void) { sink = sqlite_read_key(one, two, totals); }
-static void lmdb_key(void) { sink = lmdb_read_key(one, two, totals); }
-static void probe_group(void) { probe_roll_up(table, words, IDLE, SESSION, one, out); }
-static void hand_group(void) { hand_roll_up(table, words, IDLE, SESSION, one, out); }
-static void locked_group(void) { locked_roll_up(table, words, IDLE, SESSION, one, out); }
-static void sqlite_group(void) { sums = sqlite_roll_up(one); }
-static void lmdb_group(void) { sums = lmdb_roll_up(one); }
-static void probe_slot(void) { probe_read_slot(table, words, IDLE, SESSION, slots - 1, out); }
-static void hand_slot(void) { hand_read_slot(table, words, IDLE, SESSION, slots - 1, out); }
-
-// A change is made on the last slot, which is then put back.
-static void put_back(void) { memcpy(table + (slots - 1) * SLOT, spare + (slots - 1) * SLOT, SLOT * sizeof(int64_t)); }
-static void probe_new(void) { probe_insert(table, words, ACTIVE, one, two, 1, 2, out), put_back(); }
-static void hand_new(void) { hand_insert(table, words, ACTIVE, one, two, 1, 2, out), put_back(); }
-static void probe_totals(void) { probe_update(table, words, ACTIVE, one, two, 1, 2, out), put_back(); }
-static void hand_totals(void) { hand_update(table, words, ACTIVE, one, two, 1, 2, out), put_back(); }
-static void probe_gone(void) { probe_delete(table, words, ACTIVE, one, two, out), put_back(); }
-static void hand_gone(void) { hand_delete(table, words, ACTIVE, one, two, out), put_back(); }
-static void probe_save(void) { probe_save_block(table, words, IDLE, 1, block, out); }
-static void hand_save(void) { hand_save_block(table, words, IDLE, 1, block, out); }
-static void probe_load(void) { probe_load_block(table, words, IDLE, 1, block, sizeof block, out); }
-static void hand_load(void) { hand_load_block(table, words, IDLE, 1, block, sizeof block, out); }
-
-// The library and the C must answer and leave the same before they are timed.
-static void agree(const char *name, Body *probe, Body *hand) {
-    int64_t answer[8], left[MOST_SLOTS * SLOT];
-    uint8_t bytes[512];
-    probe();
-    memcpy(answer, out, sizeof out);
-    memcpy(left, table, sizeof table);
-    memcpy(bytes, block, sizeof block);
-    hand();
-    if (out[0] == 0 && memcmp(answer, out, sizeof out) == 0 && memcmp(left, table, sizeof table) == 0 && memcmp(bytes, block, sizeof block) == 0) return;
-    fprintf(stderr, "bench: %s: the library and the C differ, or refuse\n", name);
+void must(int fine, const char *what) {
+    if (fine) return;
+    fprintf(stderr, "bench: failed: %s\n", what);
     exit(1);
 }
 
-static void key_cases(const char *folder) {
-    static Body *const sides[SIDES] = {probe_key, hand_key, locked_key, sqlite_key, lmdb_key};
-    const char *place[] = {"hit first", "hit last", "absent"};
-    size_t counts[] = {8, 64, 1024};
-    for (int c = 0; c < 3; c++) {
-        fill(counts[c]);
-        sqlite_fill(slots);
-        lmdb_fill(slots, folder);
-        for (int p = 0; p < 3; p++) {
-            char name[64];
-            two = p == 0 ? 0 : (int64_t)slots - (p == 1);
-            one = two % GROUPS;
-            snprintf(name, sizeof name, "read a key, %zu slots, %s", slots, place[p]);
-            agree(name, probe_key, hand_key);
-            if (sqlite_read_key(one, two, totals) != (p < 2) || lmdb_read_key(one, two, totals) != (p < 2)) exit(1);
-            measure(name, sides);
-        }
+// ---- the bodies: reads
+static void probe_key(void) { probe_read_key(at->table, words, IDLE, session, one, two, out); }
+static void hand_key(void) { hand_read_key(at->table, words, IDLE, session, one, two, out); }
+static void probe_group(void) { probe_roll_up(at->table, words, IDLE, session, one, out); }
+static void hand_group(void) { hand_roll_up(at->table, words, IDLE, session, one, out); }
+static void probe_slot(void) { probe_read_slot(at->table, words, IDLE, session, slots - 1, out); }
+static void hand_slot(void) { hand_read_slot(at->table, words, IDLE, session, slots - 1, out); }
+
+// The slow reader: the same scan under a read-write lock that nobody else holds.
+static void locked_key(void) {
+    pthread_rwlock_rdlock(&lock);
+    hand_key();
+    pthread_rwlock_unlock(&lock);
+}
+
+static void locked_group(void) {
+    pthread_rwlock_rdlock(&lock);
+    hand_group();
+    pthread_rwlock_unlock(&lock);
+}
+
+// ---- the bodies: changes, each of which is then undone
+static void put_back(void) {
+    size_t from = (size_t)out[CHANGED_SLOT] * SLOT_WORDS;
+    memmove(at->table + from, at->kept + from, SLOT_WORDS * sizeof(int64_t));
+}
+
+static void probe_new(void) { probe_insert(at->table, words, ACTIVE, one, two, NEW_FIRST, NEW_SECOND, out), put_back(); }
+static void hand_new(void) { hand_insert(at->table, words, ACTIVE, one, two, NEW_FIRST, NEW_SECOND, out), put_back(); }
+static void probe_totals(void) { probe_update(at->table, words, ACTIVE, one, two, NEW_FIRST, NEW_SECOND, out), put_back(); }
+static void hand_totals(void) { hand_update(at->table, words, ACTIVE, one, two, NEW_FIRST, NEW_SECOND, out), put_back(); }
+static void probe_gone(void) { probe_delete(at->table, words, ACTIVE, one, two, out), put_back(); }
+static void hand_gone(void) { hand_delete(at->table, words, ACTIVE, one, two, out), put_back(); }
+
+// ---- the bodies: blocks
+static void probe_save(void) { probe_save_block(at->table, words, IDLE, BLOCK, at->block, out); }
+static void hand_save(void) { hand_save_block(at->table, words, IDLE, BLOCK, at->block, out); }
+static void probe_load(void) { probe_load_block(at->table, words, IDLE, BLOCK, at->block, BLOCK_BYTES, out); }
+static void hand_load(void) { hand_load_block(at->table, words, IDLE, BLOCK, at->block, BLOCK_BYTES, out); }
+
+// ---- the comparison before a row is timed
+typedef struct {
+    int64_t answer[OUT_WORDS], table[MOST_WORDS];
+    uint8_t block[BLOCK_BYTES];
+} Left;
+
+// What a body leaves of a copy of what is lent. What is kept is that same copy, so that a change stands.
+static void leave(Left *left, const Lent *from, Body *body) {
+    Lent copy = {left->table, left->table, left->block};
+    memcpy(left->table, from->table, words * sizeof(int64_t));
+    memcpy(left->block, from->block, BLOCK_BYTES);
+    at = &copy;
+    body();
+    memcpy(left->answer, out, sizeof out);
+    at = from;
+}
+
+static int same_left(const Left *a, const Left *b) {
+    return memcmp(a->answer, b->answer, sizeof a->answer) == 0 && memcmp(a->table, b->table, words * sizeof(int64_t)) == 0 &&
+           memcmp(a->block, b->block, BLOCK_BYTES) == 0;
+}
+
+// The library and the C answer, and leave the same of every table; the other sides leave the same of the first. Else it is said at
+// which call.
+static void agree(const char *call, Body *const sides[SIDES]) {
+    static Left expected, found;
+    for (size_t turn = tables_in_turn; turn-- > 0;) {
+        leave(&expected, &places[turn], sides[LIBRARY]);
+        leave(&found, &places[turn], sides[HAND]);
+        must(expected.answer[0] == 0 && same_left(&expected, &found), call);
+    }
+    for (int s = LOCKED; s < SIDES; s++) {
+        if (sides[s] == NULL) continue;
+        leave(&found, &places[0], sides[s]);
+        must(same_left(&expected, &found), call);
     }
 }
 
-static void group_cases(const char *folder) {
-    static Body *const sides[SIDES] = {probe_group, hand_group, locked_group, sqlite_group, lmdb_group};
-    size_t counts[] = {8, 64, 1024};
-    for (int c = 0; c < 3; c++) {
-        char name[64];
-        fill(counts[c]);
-        sqlite_fill(slots);
-        lmdb_fill(slots, folder);
-        one = 3;
-        snprintf(name, sizeof name, "roll-up, %zu slots", slots);
-        agree(name, probe_group, hand_group);
-        Sums a = sqlite_roll_up(one), b = lmdb_roll_up(one);
-        if (a.count != out[1] || b.count != out[1] || a.first != out[2] || b.first != out[2] || a.second != out[3] || b.second != out[3]) exit(1);
-        measure(name, sides);
-    }
+static void row(const char *call, const char *at_session, Body *const sides[SIDES]) {
+    agree(call, sides);
+    measure(call, at_session, sides);
 }
 
-static void pair(const char *name, Body *probe, Body *hand) {
+// A row of a call that has the C alone beside it.
+static void pair(const char *call, const char *at_session, Body *probe, Body *hand) {
     Body *const sides[SIDES] = {probe, hand};
-    agree(name, probe, hand);
-    measure(name, sides);
+    row(call, at_session, sides);
+}
+
+// ---- the stores
+static void find_stores(void) {
+#ifdef HAVE_SQLITE
+    stores[SQLITE] = &sqlite_store;
+#endif
+#ifdef HAVE_LMDB
+    stores[LMDB] = &lmdb_store;
+#endif
+    for (int s = 0; s < SIDES; s++)
+        if (stores[s] != NULL) columns[s] = stores[s]->name;
+}
+
+// Gives each store the rows that the session sees of the first table.
+static void fill_stores(void) {
+    static Row rows[MOST_SLOTS];
+    size_t count = 0;
+    for (size_t k = 0; k < slots; k++) {
+        hand_read_slot(places[0].table, words, IDLE, session, k, out);
+        if (out[MARK] == 1) rows[count++] = (Row){out[KEY_ONE], out[KEY_TWO], out[TOTAL_ONE], out[TOTAL_TWO]};
+    }
+    for (int s = 0; s < SIDES; s++)
+        if (stores[s] != NULL) stores[s]->fill(rows, count, folder);
+}
+
+// ---- the rows
+static void ask_for(size_t slot) {
+    two = (int64_t)slot;
+    one = two % GROUPS;
+}
+
+static void key_rows(const char *at_session) {
+    const struct {
+        const char *name;
+        size_t slot;
+    } asked[] = {{"hit first", 0}, {"hit last", slots - 1}, {"absent", slots}};
+    Body *sides[SIDES] = {probe_key, hand_key, locked_key};
+    for (int s = 0; s < SIDES; s++)
+        if (stores[s] != NULL) sides[s] = stores[s]->read_key;
+    for (size_t i = 0; i < COUNT_OF(asked); i++) {
+        char call[NAME_BYTES];
+        ask_for(asked[i].slot);
+        snprintf(call, sizeof call, "read a key, %zu slots, %s", slots, asked[i].name);
+        row(call, at_session, sides);
+    }
+}
+
+static void group_rows(const char *at_session) {
+    char call[NAME_BYTES];
+    Body *sides[SIDES] = {probe_group, hand_group, locked_group};
+    for (int s = 0; s < SIDES; s++)
+        if (stores[s] != NULL) sides[s] = stores[s]->roll_up;
+    one = GROUP;
+    snprintf(call, sizeof call, "roll-up, %zu slots", slots);
+    row(call, at_session, sides);
+}
+
+// The rows of a read, for every kind and size of table and both sessions.
+static void read_rows(void (*rows)(const char *at_session)) {
+    const size_t counts[] = {FEW, SOME, MANY};
+    for (size_t k = 0; k < COUNT_OF(KINDS); k++)
+        for (size_t c = 0; c < COUNT_OF(counts); c++)
+            for (size_t s = 0; s < COUNT_OF(SESSIONS); s++) {
+                fill(KINDS[k], counts[c]);
+                session = SESSIONS[s].version;
+                fill_stores();
+                rows(SESSIONS[s].name);
+            }
 }
 
 // Tables in which the second key word repeats, as a date does: it no longer tells slots apart by itself.
-static void date_cases(void) {
-    size_t counts[] = {64, 1024}, dates[] = {32, 4, 1};
-    for (int c = 0; c < 2; c++) {
-        fill(counts[c]);
-        for (int d = 0; d < 3; d++) {
-            char name[64];
-            for (size_t k = 0; k < slots; k++) {
-                table[k * SLOT + 2] = one = (int64_t)(k / dates[d]);
-                table[k * SLOT + 3] = two = (int64_t)(k % dates[d]);
-            }
-            snprintf(name, sizeof name, "read the last of %zu, dates %zu", slots, dates[d]);
-            pair(name, probe_key, hand_key);
+static void date_rows(void) {
+    const size_t counts[] = {SOME, MANY}, dates[] = {32, 4, 1};
+    session = SESSIONS[0].version;
+    for (size_t c = 0; c < COUNT_OF(counts); c++)
+        for (size_t d = 0; d < COUNT_OF(dates); d++) {
+            char call[NAME_BYTES];
+            fill(UNIFORM, counts[c]);
+            repeat_dates(dates[d]);
+            one = (int64_t)((slots - 1) / dates[d]);
+            two = (int64_t)((slots - 1) % dates[d]);
+            snprintf(call, sizeof call, "read the last of %zu, dates %zu", slots, dates[d]);
+            pair(call, SESSIONS[0].name, probe_key, hand_key);
         }
+}
+
+static void slot_rows(void) {
+    for (size_t k = 0; k < COUNT_OF(KINDS); k++)
+        for (size_t s = 0; s < COUNT_OF(SESSIONS); s++) {
+            fill(KINDS[k], SOME);
+            session = SESSIONS[s].version;
+            pair("read a slot", SESSIONS[s].name, probe_slot, hand_slot);
+        }
+}
+
+// Update and delete of the last row; then an insert of its key where it has gone, into the lowest free slot.
+static void change_rows_of(Kind which, size_t count) {
+    static const int64_t empty[SLOT_WORDS];
+    char call[NAME_BYTES];
+    fill(which, count);
+    ask_for(slots - 1);
+    snprintf(call, sizeof call, "update, %zu slots, the last", slots);
+    pair(call, "", probe_totals, hand_totals);
+    snprintf(call, sizeof call, "delete, %zu slots, the last", slots);
+    pair(call, "", probe_gone, hand_gone);
+    for (size_t t = 0; t < tables_in_turn; t++) put_row(&places[t], slots - 1, empty);
+    snprintf(call, sizeof call, "insert, %zu slots, a new key", slots);
+    pair(call, "", probe_new, hand_new);
+}
+
+static void change_rows(void) {
+    const size_t counts[] = {FEW, SOME};
+    for (size_t k = 0; k < COUNT_OF(KINDS); k++)
+        for (size_t c = 0; c < COUNT_OF(counts); c++) change_rows_of(KINDS[k], counts[c]);
+}
+
+static void block_rows(void) {
+    for (size_t k = 0; k < COUNT_OF(KINDS); k++) {
+        fill(KINDS[k], SOME);
+        pair("save a block", "", probe_save, hand_save);
+        for (size_t t = 0; t < tables_in_turn; t++) lend(t), hand_save();
+        pair("load a block", "", probe_load, hand_load);
     }
 }
 
-static void other_cases(void) {
-    fill(64);
-    two = (int64_t)slots - 1;
-    one = two % GROUPS;
-    pair("read a slot", probe_slot, hand_slot);
-    pair("update, 64 slots, the last", probe_totals, hand_totals);
-    pair("delete, 64 slots, the last", probe_gone, hand_gone);
-    pair("save a block", probe_save, hand_save);
-    pair("load a block", probe_load, hand_load);
-    memset(table + (slots - 1) * SLOT, 0, SLOT * sizeof(int64_t));
-    memset(spare + (slots - 1) * SLOT, 0, SLOT * sizeof(int64_t));
-    pair("insert, 64 slots, the last free", probe_new, hand_new);
-}
-
-int main(int count, char **words_given) {
-    if (count != 2) {
-        fprintf(stderr, "usage: bench FOLDER (for LMDB's files)\n");
+int main(int count, char **given) {
+    if (count != 3) {
+        fprintf(stderr, "usage: bench FOLDER FILE (a folder for LMDB's files, and where the lines for other programs go)\n");
         return 2;
     }
-    printf("%-34s %9s %18s %18s %18s %18s\n", "nanoseconds (library / it)", "library", "C", "lock + C", "SQLite", "LMDB");
-    key_cases(words_given[1]);
-    group_cases(words_given[1]);
-    date_cases();
-    other_cases();
+    FILE *lines = fopen(given[2], "a");
+    must(lines != NULL, given[2]);
+    folder = given[1];
+    find_stores();
+    show_heads(lines);
+    read_rows(key_rows);
+    read_rows(group_rows);
+    date_rows();
+    slot_rows();
+    change_rows();
+    block_rows();
+    must(fclose(lines) == 0, given[2]);
     return 0;
 }

@@ -1,0 +1,80 @@
+// The tables that are timed, made the same way each time.
+#include "lent.h"
+
+#include <string.h>
+
+enum { INSERT = 1, UPDATE, DELETE };
+enum { SLOT_KEY_ONE = 2, SLOT_KEY_TWO = 3 };
+enum { FIRST_RUN = 2, HUNDRED = 100, INSERTS = 60, UPDATES = 25, DELETES = 10 };
+enum { LOW_BITS = 33 };
+
+static const uint64_t MULTIPLIER = 6364136223846793005u, INCREMENT = 1442695040888963407u;
+
+Lent places[TABLES];
+const Lent *at = places;
+Kind kind;
+size_t slots, words, tables_in_turn = 1;
+int64_t session, one, two, out[OUT_WORDS];
+
+static int64_t tables[TABLES * MOST_WORDS], copies[TABLES * MOST_WORDS];
+static uint8_t blocks[TABLES][BLOCK_BYTES];
+static uint64_t state;
+
+// A number below a limit, from the high bits of the next number of Knuth's linear congruential series.
+static int64_t drawn(int64_t below) {
+    state = state * MULTIPLIER + INCREMENT;
+    return (int64_t)(state >> LOW_BITS) % below;
+}
+
+// An operation by the mix, or 0 for an empty slot; a live slot is one of the first two.
+static int64_t drawn_operation(int live) {
+    int64_t draw = drawn(live ? INSERTS + UPDATES : HUNDRED);
+    if (draw < INSERTS) return INSERT;
+    if (draw < INSERTS + UPDATES) return UPDATE;
+    if (draw < INSERTS + UPDATES + DELETES) return DELETE;
+    return 0;
+}
+
+void put_row(const Lent *to, size_t slot, const int64_t row[SLOT_WORDS]) {
+    memcpy(to->table + slot * SLOT_WORDS, row, SLOT_WORDS * sizeof *row);
+    memcpy(to->kept + slot * SLOT_WORDS, row, SLOT_WORDS * sizeof *row);
+}
+
+// A used slot; its old totals differ from its current ones, and are 0 in an insert.
+static void put_used(const Lent *to, size_t slot, int64_t run, int64_t operation) {
+    int64_t total = (int64_t)slot, old = operation == INSERT ? 0 : 2 * total;
+    int64_t row[SLOT_WORDS] = {run, operation, (int64_t)(slot % GROUPS), (int64_t)slot, total, -total, old, -old};
+    put_row(to, slot, row);
+}
+
+static void fill_mixed(const Lent *to) {
+    for (size_t k = 0; k < slots; k++) {
+        int64_t operation = drawn_operation(k == 0 || k == slots - 1), run = FIRST_RUN + drawn(CURRENT - FIRST_RUN + 1);
+        if (operation != 0) put_used(to, k, run, operation);
+    }
+}
+
+void fill(Kind which, size_t count) {
+    kind = which;
+    slots = count;
+    words = count * SLOT_WORDS;
+    tables_in_turn = which == MIXED ? TABLES : 1;
+    state = 1;
+    memset(tables, 0, sizeof tables);
+    memset(copies, 0, sizeof copies);
+    for (size_t t = 0; t < tables_in_turn; t++) {
+        places[t] = (Lent){tables + t * words, copies + t * words, blocks[t]};
+        if (which == MIXED)
+            fill_mixed(&places[t]);
+        else
+            for (size_t k = 0; k < slots; k++) put_used(&places[t], k, FIRST_RUN, INSERT);
+    }
+    lend(0);
+}
+
+void repeat_dates(size_t dates) {
+    for (size_t k = 0; k < slots; k++) {
+        at->table[k * SLOT_WORDS + SLOT_KEY_ONE] = (int64_t)(k / dates);
+        at->table[k * SLOT_WORDS + SLOT_KEY_TWO] = (int64_t)(k % dates);
+    }
+}

@@ -1,0 +1,43 @@
+// What a timed call is lent: tables of one of two kinds, a session, a key, and eight words for the answer. Every body finds it
+// here, so that all are called alike.
+//
+// Uniform: one table, every slot an insert of one older run. Mixed: sixteen tables that are lent in turn, so that no branch is
+// learned; of their slots, in random order, 60 % are inserts, 25 % updates, 10 % deletes and 5 % empty, of all runs. The first and
+// the last slot of a mixed table are live, so that their keys are found and can be changed. The slot k has the key (k % GROUPS, k).
+#ifndef LENT_H
+#define LENT_H
+#include <stddef.h>
+#include <stdint.h>
+
+enum { SLOT_WORDS = 8, MOST_SLOTS = 1024, MOST_WORDS = MOST_SLOTS * SLOT_WORDS, BLOCK_BYTES = 512, OUT_WORDS = 8 };
+enum { GROUPS = 8, TABLES = 16, CURRENT = 4 };
+
+typedef enum { UNIFORM, MIXED } Kind;
+
+typedef void Body(void);
+
+// A table, the same words again to put back what a call changed, and a block.
+typedef struct {
+    int64_t *table, *kept;
+    uint8_t *block;
+} Lent;
+
+extern Lent places[TABLES];
+extern const Lent *at;
+extern Kind kind;
+extern size_t slots, words, tables_in_turn;
+extern int64_t session, one, two, out[OUT_WORDS];
+
+// Makes the tables of a kind with so many slots, and lends the first.
+void fill(Kind which, size_t count);
+
+// Gives the slots of the table that is lent second key words that repeat, as dates do: slot k has the key (k / dates, k % dates).
+void repeat_dates(size_t dates);
+
+// Gives the words of a slot to a table and to what is kept of it.
+void put_row(const Lent *to, size_t slot, const int64_t row[SLOT_WORDS]);
+
+// Lends the table whose turn it is.
+static inline void lend(size_t turn) { at = &places[turn & (tables_in_turn - 1)]; }
+
+#endif

@@ -1,0 +1,68 @@
+// SQLite in memory: the key is the primary key, and each statement is prepared once.
+#include <sqlite3.h>
+#include <string.h>
+
+#include "stores.h"
+
+static sqlite3 *base;
+static sqlite3_stmt *by_key, *by_group;
+
+static sqlite3_stmt *prepared(const char *text) {
+    sqlite3_stmt *statement;
+    must(sqlite3_prepare_v2(base, text, -1, &statement, NULL) == SQLITE_OK, text);
+    return statement;
+}
+
+static void open_anew(void) {
+    if (base != NULL) {
+        sqlite3_finalize(by_key);
+        sqlite3_finalize(by_group);
+        sqlite3_close(base);
+    }
+    must(sqlite3_open(":memory:", &base) == SQLITE_OK, "sqlite3_open");
+    const char *create = "CREATE TABLE sales (one INT, two INT, first INT, second INT, PRIMARY KEY (one, two)) WITHOUT ROWID";
+    must(sqlite3_exec(base, create, 0, 0, 0) == SQLITE_OK, "CREATE");
+}
+
+static void sqlite_fill(const Row *rows, size_t count, const char *folder) {
+    (void)folder;
+    open_anew();
+    sqlite3_stmt *insert = prepared("INSERT INTO sales VALUES (?, ?, ?, ?)");
+    for (size_t k = 0; k < count; k++) {
+        sqlite3_bind_int64(insert, 1, rows[k].one);
+        sqlite3_bind_int64(insert, 2, rows[k].two);
+        sqlite3_bind_int64(insert, 3, rows[k].first);
+        sqlite3_bind_int64(insert, 4, rows[k].second);
+        must(sqlite3_step(insert) == SQLITE_DONE, "INSERT");
+        sqlite3_reset(insert);
+    }
+    sqlite3_finalize(insert);
+    by_key = prepared("SELECT first, second FROM sales WHERE one = ? AND two = ?");
+    by_group = prepared("SELECT count(*), sum(first), sum(second) FROM sales WHERE one = ?");
+}
+
+static void sqlite_read_key(void) {
+    memset(out, 0, sizeof out);
+    sqlite3_bind_int64(by_key, 1, one);
+    sqlite3_bind_int64(by_key, 2, two);
+    if (sqlite3_step(by_key) == SQLITE_ROW) {
+        out[MARK] = 1;
+        out[KEY_ONE] = one;
+        out[KEY_TWO] = two;
+        out[TOTAL_ONE] = sqlite3_column_int64(by_key, 0);
+        out[TOTAL_TWO] = sqlite3_column_int64(by_key, 1);
+    }
+    sqlite3_reset(by_key);
+}
+
+static void sqlite_roll_up(void) {
+    memset(out, 0, sizeof out);
+    sqlite3_bind_int64(by_group, 1, one);
+    must(sqlite3_step(by_group) == SQLITE_ROW, "SELECT");
+    out[COUNT] = sqlite3_column_int64(by_group, 0);
+    out[SUM_ONE] = sqlite3_column_int64(by_group, 1);
+    out[SUM_TWO] = sqlite3_column_int64(by_group, 2);
+    sqlite3_reset(by_group);
+}
+
+const Store sqlite_store = {"SQLite", sqlite_fill, sqlite_read_key, sqlite_roll_up};

@@ -1,0 +1,84 @@
+// How a row is timed and shown.
+#include "timing.h"
+
+#include <stdlib.h>
+#include <time.h>
+
+enum { ROUNDS = 301, FIRST_REPEATS = 100, BATCH_NANOSECONDS = 20000 };
+
+static const double NANOSECONDS = 1e9;
+static const char *const KIND_NAMES[] = {"uniform", "mixed"};
+static FILE *file;
+
+static double now(void) {
+    struct timespec t;
+    clock_gettime(CLOCK_MONOTONIC, &t);
+    return (double)t.tv_sec * NANOSECONDS + (double)t.tv_nsec;
+}
+
+// Nanoseconds a call, over so many calls on the tables from a turn on.
+static double timed(Body *body, size_t turn, size_t repeats) {
+    double from = now();
+    for (size_t i = 0; i < repeats; i++) {
+        lend(turn + i);
+        body();
+    }
+    return (now() - from) / (double)repeats;
+}
+
+static int by_size(const void *a, const void *b) {
+    double x = *(const double *)a, y = *(const double *)b;
+    return (x > y) - (x < y);
+}
+
+static double median(double *times) {
+    qsort(times, ROUNDS, sizeof *times, by_size);
+    return times[ROUNDS / 2];
+}
+
+// The sides by turns: in a round each is given the same tables.
+static void take_medians(Body *const sides[SIDES], double medians[SIDES]) {
+    static double times[SIDES][ROUNDS];
+    double first = timed(sides[LIBRARY], 0, FIRST_REPEATS);
+    size_t repeats = first > BATCH_NANOSECONDS ? 1 : (size_t)(BATCH_NANOSECONDS / first) + 1;
+    for (size_t r = 0; r < ROUNDS; r++)
+        for (int s = 0; s < SIDES; s++)
+            if (sides[s] != NULL) times[s][r] = timed(sides[s], r * repeats, repeats);
+    for (int s = 0; s < SIDES; s++)
+        if (sides[s] != NULL) medians[s] = median(times[s]);
+}
+
+void show_heads(FILE *lines) {
+    file = lines;
+    printf("%-34s %-8s %-11s", "nanoseconds (library / it)", "table", "session");
+    fprintf(file, "call\ttable\tsession");
+    for (int s = 0; s < SIDES; s++)
+        if (columns[s] != NULL) {
+            printf(s == LIBRARY ? " %9s" : " %17s", columns[s]);
+            fprintf(file, "\t%s", columns[s]);
+        }
+    printf("\n");
+    fprintf(file, "\n");
+}
+
+void measure(const char *call, const char *at_session, Body *const sides[SIDES]) {
+    double medians[SIDES] = {0};
+    take_medians(sides, medians);
+    printf("%-34s %-8s %-11s", call, KIND_NAMES[kind], at_session);
+    fprintf(file, "%s\t%s\t%s", call, KIND_NAMES[kind], at_session);
+    for (int s = 0; s < SIDES; s++) {
+        if (columns[s] == NULL) continue;
+        if (sides[s] == NULL) {
+            fprintf(file, "\t");
+            continue;
+        }
+        if (s == LIBRARY)
+            printf(" %9.1f", medians[s]);
+        else
+            printf(" %9.1f (%5.2f)", medians[s], medians[LIBRARY] / medians[s]);
+        fprintf(file, "\t%.3f", medians[s]);
+    }
+    printf("\n");
+    fprintf(file, "\n");
+    fflush(stdout);
+}
