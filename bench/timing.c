@@ -16,14 +16,28 @@ static double now(void) {
     return (double)t.tv_sec * NANOSECONDS + (double)t.tv_nsec;
 }
 
-// Nanoseconds a call, over so many calls on the tables from a turn on.
-static double timed(Body *body, size_t turn, size_t repeats) {
-    double from = now();
-    for (size_t i = 0; i < repeats; i++) {
-        lend(turn + i);
+// So many calls, on the tables in turn.
+static void call(Body *body, size_t repeats) {
+    for (size_t turn = 0; turn < repeats; turn++) {
+        lend(turn);
         body();
     }
+}
+
+// Nanoseconds a call, over so many. Each table is walked once before, so that no side pays for what the side before it left in the
+// caches.
+static double timed(Body *body, size_t repeats) {
+    call(body, tables_in_turn);
+    double from = now();
+    call(body, repeats);
     return (now() - from) / (double)repeats;
+}
+
+// How many calls make a batch of some length, each table as often as the others.
+static size_t repeats_of(Body *body) {
+    double one_call = timed(body, FIRST_REPEATS);
+    size_t walks = (size_t)(BATCH_NANOSECONDS / one_call) / tables_in_turn;
+    return (walks + 1) * tables_in_turn;
 }
 
 static int by_size(const void *a, const void *b) {
@@ -36,14 +50,13 @@ static double median(double *times) {
     return times[ROUNDS / 2];
 }
 
-// The sides by turns: in a round each is given the same tables.
+// The sides by turns.
 static void take_medians(Body *const sides[SIDES], double medians[SIDES]) {
     static double times[SIDES][ROUNDS];
-    double first = timed(sides[LIBRARY], 0, FIRST_REPEATS);
-    size_t repeats = first > BATCH_NANOSECONDS ? 1 : (size_t)(BATCH_NANOSECONDS / first) + 1;
-    for (size_t r = 0; r < ROUNDS; r++)
+    size_t repeats = repeats_of(sides[LIBRARY]);
+    for (int r = 0; r < ROUNDS; r++)
         for (int s = 0; s < SIDES; s++)
-            if (sides[s] != NULL) times[s][r] = timed(sides[s], r * repeats, repeats);
+            if (sides[s] != NULL) times[s][r] = timed(sides[s], repeats);
     for (int s = 0; s < SIDES; s++)
         if (sides[s] != NULL) medians[s] = median(times[s]);
 }
@@ -61,11 +74,11 @@ void show_heads(FILE *lines) {
     fprintf(file, "\n");
 }
 
-void measure(const char *call, const char *at_session, Body *const sides[SIDES]) {
+void measure(const char *name, const char *at_session, Body *const sides[SIDES]) {
     double medians[SIDES] = {0};
     take_medians(sides, medians);
-    printf("%-34s %-8s %-11s", call, KIND_NAMES[kind], at_session);
-    fprintf(file, "%s\t%s\t%s", call, KIND_NAMES[kind], at_session);
+    printf("%-34s %-8s %-11s", name, KIND_NAMES[kind], at_session);
+    fprintf(file, "%s\t%s\t%s", name, KIND_NAMES[kind], at_session);
     for (int s = 0; s < SIDES; s++) {
         if (columns[s] == NULL) continue;
         if (sides[s] == NULL) {

@@ -16,6 +16,6 @@ void show_heads(FILE *lines);
 
 // Times the sides that the row has, on the tables that are lent, and shows the row. `at_session` is empty where the call takes no
 // session.
-void measure(const char *call, const char *at_session, Body *const sides[SIDES]);
+void measure(const char *name, const char *at_session, Body *const sides[SIDES]);
 
 #endif
