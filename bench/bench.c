@@ -5,7 +5,7 @@
 #include <stdlib.h>
 #include <string.h>
 
-#include "../second/probe.h"
+#include "../include/probe.h"
 #include "hand.h"
 #include "lent.h"
 #include "stores.h"

@@ -1,4 +1,4 @@
-// The library's calls written by hand in C: the same arguments, tests, refusals and answers as probe.h, under names of their own.
+// The library's calls written by hand in C: the same arguments, tests, refusals and answers as include/probe.h, under names of their own.
 #ifndef HAND_H
 #define HAND_H
 #include <stddef.h>

@@ -47,9 +47,6 @@ enum {
     BAD_BATCH = 2,
     SECONDS_FOR_A_BATCH = 10,
     WORD_BYTES = 8,
-    RECORD_WORDS = 4,
-    OUT_WORDS = 8,
-    BLOCK_BYTES = 512,
     HEAD_WORDS = 11,    /* of a request, before its table */
     GUARD_WORDS = 16,   /* around each thing lent */
     GUARD_BYTE = 0xa5,  /* each byte of a guard */
@@ -143,7 +140,7 @@ static size_t part_request(const int64_t *words, size_t left, struct request *re
     left -= HEAD_WORDS + request->words;
     if (request->bytes > left * WORD_BYTES)
         exit(BAD_BATCH);
-    if (is_save(request->call) && request->bytes != BLOCK_BYTES)
+    if (is_save(request->call) && request->bytes != PROBE_BLOCK_BYTES)
         exit(BAD_BATCH);
     request->block = request->table + request->words;
     return HEAD_WORDS + request->words + padded_words(request->bytes);
@@ -151,7 +148,7 @@ static size_t part_request(const int64_t *words, size_t left, struct request *re
 
 static size_t arena_words(const struct request *request)
 {
-    return 5 * GUARD_WORDS + request->words + RECORD_WORDS + OUT_WORDS
+    return 5 * GUARD_WORDS + request->words + PROBE_RECORD_WORDS + PROBE_OUT_WORDS
         + padded_words(request->bytes);
 }
 
@@ -162,11 +159,11 @@ static struct lent lend(const struct request *request, int64_t *arena)
     memset(arena, GUARD_BYTE, arena_words(request) * WORD_BYTES);
     lent.table = arena + GUARD_WORDS;
     lent.record = lent.table + request->words + GUARD_WORDS;
-    lent.out = lent.record + RECORD_WORDS + GUARD_WORDS;
-    lent.block = (uint8_t *)(lent.out + OUT_WORDS + GUARD_WORDS);
+    lent.out = lent.record + PROBE_RECORD_WORDS + GUARD_WORDS;
+    lent.block = (uint8_t *)(lent.out + PROBE_OUT_WORDS + GUARD_WORDS);
     memcpy(lent.table, request->table, request->words * WORD_BYTES);
-    memcpy(lent.record, request->record, RECORD_WORDS * WORD_BYTES);
-    memset(lent.out, OUT_BYTE, OUT_WORDS * WORD_BYTES);
+    memcpy(lent.record, request->record, PROBE_RECORD_WORDS * WORD_BYTES);
+    memset(lent.out, OUT_BYTE, PROBE_OUT_WORDS * WORD_BYTES);
     memcpy(lent.block, request->block, request->bytes);
     return lent;
 }
@@ -185,8 +182,8 @@ static int guards_stand(const struct request *request, const struct lent *lent,
 {
     return is_guard(arena, lent->table)
         && is_guard(lent->table + request->words, lent->record)
-        && is_guard(lent->record + RECORD_WORDS, lent->out)
-        && is_guard(lent->out + OUT_WORDS, lent->block)
+        && is_guard(lent->record + PROBE_RECORD_WORDS, lent->out)
+        && is_guard(lent->out + PROBE_OUT_WORDS, lent->block)
         && is_guard(lent->block + request->bytes, arena + arena_words(request));
 }
 
@@ -246,10 +243,10 @@ static int64_t *put_answer(const struct request *request, const struct lent *len
                            const int64_t *arena, int64_t *to)
 {
     *to++ = guards_stand(request, lent, arena) ? 0 : 1;
-    memcpy(to, lent->out, OUT_WORDS * WORD_BYTES);
-    to += OUT_WORDS;
-    memcpy(to, lent->record, RECORD_WORDS * WORD_BYTES);
-    to += RECORD_WORDS;
+    memcpy(to, lent->out, PROBE_OUT_WORDS * WORD_BYTES);
+    to += PROBE_OUT_WORDS;
+    memcpy(to, lent->record, PROBE_RECORD_WORDS * WORD_BYTES);
+    to += PROBE_RECORD_WORDS;
     memcpy(to, lent->table, request->words * WORD_BYTES);
     to += request->words;
     memset(to, 0, padded_words(request->bytes) * WORD_BYTES);

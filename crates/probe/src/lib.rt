@@ -1,6 +1,6 @@
-// Every call of the library as a C function, for programs that compare, fuzz or measure it; no client is promised them. The
-// record is four words (current, the run mark, and two that stay), the answer's numbers go into eight, a saved block into 512
-// bytes, and each of these is written whole.
+// Every call of the library as a C function, for hosts in C or Rust and for programs that compare, fuzz or measure it;
+// include/probe.h declares them. The record is four words (current, the run mark, and two that stay), the answer's numbers go
+// into eight, a saved block into 512 bytes, and each of these is written whole.
 ghost use mathlib.Core.Path.{_≡_};
 ghost use mathlib.Core.List.{[]};
 ghost use Rattle.calls.specs.Calls.{openSession, begin, commit, readSlot, readKey, rollUp, insert, update, delete, saveHeader, saveBlock, loadHeader, loadBlock};

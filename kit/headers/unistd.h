@@ -1,4 +1,4 @@
-/* The part of this header that caller.c needs: the kit's compiler has none. */
+/* The part of this header that our C programs need: the kit's compiler has none. */
 #ifndef UNISTD_H
 #define UNISTD_H
 
