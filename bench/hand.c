@@ -1,7 +1,7 @@
-// The library's calls written by hand in C, as a careful C programmer would: one slot a turn, every test that the library makes and
-// in its order. Where the low byte of a word comes first in memory, a slot stands in a block as it stands in the table, so a save
-// tests each slot and writes it to its place in one walk, and a load tests the block's slots where they are and then moves them to
-// the table; nothing is copied to another place in between.
+// The library's reads, changes and blocks written by hand in C, as a careful C programmer would: one slot a turn, every test that
+// the library makes and in its order. Where the low byte of a word comes first in memory, a slot stands in a block as it stands
+// in the table, so a save tests each slot and writes it to its place in one walk, and a load tests the block's slots where they
+// are and then moves them to the table; nothing is copied to another place in between.
 #include "hand.h"
 
 #include <stdbool.h>

@@ -9,7 +9,7 @@ use Rattle.versions.specs.Record.{badRecord}
 use Rattle.table.specs.Slots.{badTable}
 use Rattle.blocks_words.specs.AlteredWord.{OneWordChanged, check-wrong}
 use Rattle.blocks_loads.specs.HeaderFieldLaws.{header-words}
-use Rattle.blocks.specs.HeaderLaws.{header-lawful, header-saved}
+use Rattle.blocks.specs.HeaderLaws.{header-lawful, header-block}
 use Rattle.blocks.specs.SlotBlocks.{noSuchBlock}
 use Rattle.blocks.specs.FrontLaws.{front-passes}
 use Rattle.blocks.specs.EndLaws.{end-15, load-block-end}
@@ -24,7 +24,7 @@ pub header-refused : (t : List ℤ) (v : VersionRecord) (changed : List ℕ)
     → saveHeaderRefusal t v ≡ 0 → OneWordChanged (saveHeaderBlock t v) changed → loadHeaderRefusal changed ≡ 15
 unfolding loadHeaderRefusal
 header-refused t v changed allowed one =
-    end-15 changed _ (one .size) (check-wrong _ changed (header-words _ _ (header-lawful t v allowed)) (rw (header-saved t v allowed) at one))
+    end-15 changed _ (one .size) (check-wrong _ changed (header-words _ _ (header-lawful t v allowed)) (rw (header-block t v allowed) at one))
 
 -- and so does a load of slots that no earlier test refuses
 pub block-refused : (t : List ℤ) (v : VersionRecord) (k : ℕ) (changed : List ℕ)

@@ -48,11 +48,11 @@ module _ (t : List ℤ) (v : VersionRecord) (allowed : saveHeaderRefusal t v ≡
   header-lawful = let size = lengths t (none _ tt allowed 1) in record { some = size .some; few = size .few; first = current .first; last = current .last }
 
   -- the block is that of its words
-  pub header-saved : saveHeaderBlock t v ≡ blockOf (headerWords (slots t) (natAbs (v .current)))
+  pub header-block : saveHeaderBlock t v ≡ blockOf (headerWords (slots t) (natAbs (v .current)))
   unfolding saveHeaderBlock
-  header-saved = rw allowed
+  header-block = rw allowed
 
   -- and they are the slots of the table and the current version
   pub header-read : headerOf (saveHeaderBlock t v) ≡ Holds (slots t) (v .current)
   unfolding headerOf
-  header-read = rw (header-saved, slots-back _ _ header-lawful, current-back _ _ header-lawful, current .back)
+  header-read = rw (header-block, slots-back _ _ header-lawful, current-back _ _ header-lawful, current .back)

@@ -28,7 +28,7 @@ use Rattle.blocks_loads.specs.AllowedLaws.{slots-allowed}
 use Rattle.blocks_loads.specs.LoadedLaws.{loaded-length, loaded-other, loaded-same}
 use Rattle.blocks.specs.declared.Header.the-variants.{Holds}
 use Rattle.blocks.specs.declared.Loaded.the-variants.{Done}
-use Rattle.blocks.specs.HeaderLaws.{header-lawful, header-saved, header-read}
+use Rattle.blocks.specs.HeaderLaws.{header-lawful, header-block, header-read}
 use Rattle.blocks.specs.EndLaws.{end-0, load-block-end}
 use Rattle.blocks.specs.SlotBlocks.{blockBroken, slotsFrom, slotBlockWords}
 use Rattle.blocks.specs.SlotBlockLaws.{Fitting, front, table-sound, slots-saved, slot-words, slot-back}
@@ -45,7 +45,7 @@ module _ (t : List ℤ) (v : VersionRecord) (allowed : saveHeaderRefusal t v ≡
   header-loads =
       let lawful = header-lawful t v allowed in
       let made = header-words _ _ lawful in
-      rw (header-saved t v allowed) (end-0 _ _ (block-length _ made) (check-right _ made) (header-right _ _ lawful))
+      rw (header-block t v allowed) (end-0 _ _ (block-length _ made) (check-right _ made) (header-right _ _ lawful))
 
   -- and answers the slots of the table and the current version
   pub header-back : loadHeaderAnswer (saveHeaderBlock t v) ≡ Holds (slots t) (v .current)

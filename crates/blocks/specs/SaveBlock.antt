@@ -1,5 +1,5 @@
--- Save block: its refusals in the rules' order, the block that it hands out, and the contract that says so.
--- Assumes nothing.
+-- Save block: its refusals in the order of RULES.md (The order of tests), the block that it hands out, and the contract that says
+-- so. Assumes nothing.
 use mathlib.Core.Path.{_≡_, sym, _∙_}
 use mathlib.Core.Bool.{Bool}
 use mathlib.Core.List.{List, _++_}

@@ -1,5 +1,5 @@
--- Block k from 1: which blocks a table has, the words of a saved one, and which slots it does not save. Only this crate
--- unfolds them. Assumes nothing.
+-- Block k from 1: which blocks a table has, the words of a saved one, and which slots it does not save. Only this crate unfolds
+-- them. RULES.md, Blocks. Assumes nothing.
 use mathlib.Core.Bool.{Bool, not, _&&_}
 use mathlib.Core.List.{List, [], _∷_, _++_}
 use Prim.Native.Nat.{ℕ, zero, suc, _+_}

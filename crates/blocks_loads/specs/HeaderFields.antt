@@ -1,5 +1,5 @@
--- Block 0, the header, as save and load both have it: its words, and which of them a load does not allow. Only this crate
--- unfolds `headerWords` and `headerWrong`. Assumes nothing.
+-- Block 0, the header, as save and load both have it: its words, and which of them a load does not allow. Only this crate unfolds
+-- `headerWords` and `headerWrong`. RULES.md, Blocks. Assumes nothing.
 use mathlib.Core.Bool.{Bool, not}
 use mathlib.Core.List.{List, [], _∷_}
 use Prim.Native.Nat.{ℕ}

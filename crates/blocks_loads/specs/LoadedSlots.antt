@@ -1,5 +1,5 @@
--- Block k from 1: the slots of the table that it holds, which of its words a load does not allow, and the table that its
--- slots are written to. Only this crate unfolds them. Assumes nothing.
+-- Block k from 1: the slots of the table that it holds, which of its words a load does not allow, and the table that its slots
+-- are written to. Only this crate unfolds them. RULES.md, Blocks. Assumes nothing.
 use mathlib.Core.Path.{_≡_}
 use mathlib.Core.Bool.{Bool, false, cond, not}
 use mathlib.Core.List.{List, [], _∷_}
@@ -10,13 +10,13 @@ use Rattle.laws.specs.Tests.{any}
 use Rattle.laws.specs.Lowest.{some}
 use Rattle.versions.specs.declared.VersionRecord.{VersionRecord}
 use Rattle.table.specs.Slots.{badTable, slots, putSlot}
-use Rattle.table_forms.specs.Formed.{allZeros, wellFormed}
+use Rattle.table_forms.specs.Formed.{allZeros, broken}
 use Rattle.blocks_words.specs.Words.{numberPlace, wordAt, nonzero}
 use Rattle.blocks_words.specs.Longs.{blockSlots, blockSlot}
 
 -- slots / 7 rounded up
 abbrev pub blocks : List ℤ → ℕ
-blocks t = (slots t + 6) / blockSlots
+blocks t = (slots t + (blockSlots - 1)) / blockSlots
 
 -- block k holds seven slots, from slot 7 × (k − 1)
 abbrev pub firstSlot : ℕ → ℕ
@@ -38,7 +38,7 @@ pub record Within (t : List ℤ) (k : ℕ) : Type 0 where
 -- a slot of the table is not well formed; one beyond it is not zero
 abbrev pub slotWrong : List ℤ → VersionRecord → ℕ → List ℕ → ℕ → Bool
 slotWrong t v k block j =
-    not (cond (ltb (firstSlot k + j) (slots t)) (wellFormed (blockSlot block j) v) (allZeros (blockSlot block j)))
+    cond (ltb (firstSlot k + j) (slots t)) (broken (blockSlot block j) v) (not (allZeros (blockSlot block j)))
 
 -- 16: wrong word 0, a nonzero filler, a slot not well formed
 unfoldable pub slotBlockWrong : List ℤ → VersionRecord → ℕ → List ℕ → Bool

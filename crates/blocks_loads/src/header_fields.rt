@@ -1,4 +1,4 @@
-// Block 0, the header: which of its words are not allowed.
+// Block 0, the header: the places of its words, for a save and a load, and which words are not allowed.
 ghost use mathlib.Core.Path.{_≡_};
 ghost use lib.ListN.{length};
 ghost use Rattle.blocks_words.specs.Words.{blockBytes};

@@ -1,4 +1,5 @@
--- A signed 64-bit word in a block, as two halves, and a slot, as sixteen: how each is written and read. Assumes nothing.
+-- A signed 64-bit word in a block, as two halves, and a slot, as sixteen: how each is written and read. RULES.md, Blocks. Assumes
+-- nothing.
 use mathlib.Core.List.{List, [], _∷_, _++_}
 use Prim.Native.Nat.{ℕ, _+_, _*_}
 use lib.IntN.{ℤ}
@@ -15,6 +16,10 @@ blockSlots = 7
 -- sixteen halves to a slot
 abbrev pub slotHalves : ℕ
 slotHalves = 16
+
+-- from word 1 on
+abbrev pub firstSlotPlace : ℕ
+firstSlotPlace = 1
 
 -- ---- to words
 -- each 64-bit word as two's complement, low half first

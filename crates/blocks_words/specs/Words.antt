@@ -1,4 +1,5 @@
--- A block as 128 unsigned 32-bit words, little-endian, the last of them the check; and as 512 bytes. Assumes nothing.
+-- A block as 128 unsigned 32-bit words, little-endian, the last of them the check; and as 512 bytes. RULES.md, Blocks. Assumes
+-- nothing.
 use mathlib.Core.Bool.{Bool, not}
 use mathlib.Core.List.{List, [], _∷_, _++_}
 use Prim.Native.Nat.{ℕ, zero, suc, _+_, _*_, _%_}

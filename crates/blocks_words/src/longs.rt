@@ -8,7 +8,7 @@ ghost use mir.Val.{toZ, ofZ};
 ghost use Rattle.table.specs.Slots.{wordsOf};
 ghost use Rattle.blocks_words.specs.Words.{blockBytes, checkPlace, wordBase};
 ghost use Rattle.blocks_words.specs.Follows.{Follow};
-ghost use Rattle.blocks_words.specs.Longs.{blockSlots, slotHalves, halves, halvesOf, longAt, blockSlot};
+ghost use Rattle.blocks_words.specs.Longs.{blockSlots, slotHalves, firstSlotPlace, halves, halvesOf, longAt, blockSlot};
 use table::Slot;
 
 // A half is a digit of a number in base 2^32.
@@ -138,7 +138,7 @@ fn write_four(
 // A slot's halves written after the words before them; answers the check with them added.
 pub fn write_slot(block: &mut [u8; 512], j: usize, x: Slot, check: u32) -> u32
     requires { ⌜ j < blockSlots ⌝ }
-    ensures { λ r. ⌜ Follow (j * slotHalves + 1) (now (block .entry)) check (halvesOf (wordsOf x)) (now (block .exit)) r ⌝ }
+    ensures { λ r. ⌜ Follow (j * slotHalves + firstSlotPlace) (now (block .entry)) check (halvesOf (wordsOf x)) (now (block .exit)) r ⌝ }
 {
     let at = j * SLOT_HALVES;
     let half = write_four(block, at + RUN, x.run, x.operation, x.key1, x.key2, check);

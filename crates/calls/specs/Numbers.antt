@@ -1,5 +1,5 @@
--- The numbers of each answer, as the rules give them: the refusal first, 0 for none, then the answer's in order. A refusal
--- is its number, and zeros elsewhere. Assumes nothing.
+-- The numbers of each answer, as RULES.md (Answers as numbers) gives them: the refusal first, 0 for none, then the answer's in
+-- order. A refusal is its number, and zeros elsewhere. Assumes nothing.
 use mathlib.Core.List.{List, [], _∷_}
 use lib.IntN.{ℤ, pos}
 use Rattle.versions.specs.declared.Numbered.{Numbered}

@@ -1,5 +1,5 @@
--- Delete: its refusals in the rules' order, its answer, the words that it leaves, and the contract that says so.
--- Assumes nothing.
+-- Delete: its refusals in the order of RULES.md (The order of tests), its answer, the words that it leaves, and the contract that
+-- says so. Assumes nothing.
 use mathlib.Core.Path.{_≡_, sym, _∙_}
 use mathlib.Core.Bool.{Bool}
 use mathlib.Core.List.{List, _++_}

@@ -1,13 +1,12 @@
-// The three changes. Tables 2 to 4 of the source are constants of cell codes; what a change writes goes by the cell of its slot
-// and by nothing else. Each change is one search for its key (an insert of an absent key one more, for a free slot) and one
-// write of one slot.
+// The three changes. Tables 2 to 4 of RULES.md are constants of cell codes; what a change writes goes by the cell of its slot and
+// by nothing else. Each change is one search for its key (an insert of an absent key one more, for a free slot) and one write of
+// one slot.
 ghost use mathlib.Core.Path.{_≡_};
 ghost use mathlib.Core.Bool.{false, cond};
 ghost use Prim.Native.Nat.{_<_};
 ghost use lib.Dec.{ltb};
 ghost use Rattle.versions.specs.Record.{badRecord};
 ghost use Rattle.table.specs.Slots.{badTable, slots};
-ghost use Rattle.table_forms.specs.Formed.{broken};
 ghost use Rattle.table_searches.specs.Free.{freeSlot};
 ghost use Rattle.changes.specs.ChangeTests.{runningRefusal, givenRefusal};
 ghost use Rattle.changes.specs.Insert.{InsertContract};

@@ -1,6 +1,5 @@
--- The net effect of two changes of one run on one slot, as the source has it: two updates are the second; an insert corrected
--- stays an insert; a delete taken back is an update; an insert deleted leaves zeros. Each is two cells, one after the other.
--- Assumes nothing.
+-- The net effect of two changes of one run on one slot: two updates are the second; an insert corrected stays an insert; a delete
+-- taken back is an update; an insert deleted leaves zeros. Each is two cells, one after the other. Assumes nothing.
 use mathlib.Core.Path.{_≡_, refl, ap, _∙_}
 use mathlib.Core.Bool.{true, false, not}
 use lib.IntN.{ℤ}

@@ -1,4 +1,4 @@
--- The laws of Tables 2 to 4, one for each sentence of the rules. Each is one cell. Assumes nothing.
+-- The laws of Tables 2 to 4, one for each sentence of RULES.md (What a change writes). Each is one cell. Assumes nothing.
 use mathlib.Core.Path.{_≡_, refl}
 use mathlib.Core.Bool.{true, false}
 use lib.IntN.{ℤ, pos}

@@ -1,5 +1,5 @@
--- Tables 2, 3 and 4 of the source: what an insert, an update and a delete write on a slot, chosen by older or same run and by
--- operation. Only this crate unfolds `changed`. Assumes nothing.
+-- Tables 2, 3 and 4 of RULES.md (The decision tables, What a change writes): what an insert, an update and a delete write on a
+-- slot, chosen by older or same run and by operation. Only this crate unfolds `changed`. Assumes nothing.
 use mathlib.Core.List.{List, [], _∷_}
 use Prim.Native.Nat.{ℕ}
 use lib.IntN.{ℤ, pos}
@@ -79,9 +79,9 @@ written cell m x key1 key2 total1 total2 =
     ∷ marked x
     ∷ []) cell x
 
--- ---- the tables. The first row is tupleVN < maintenanceVN, an older run, the second tupleVN = maintenanceVN, this run; the
+-- ---- the tables. The first row is that of an older run, the second that of this run; the
 -- columns are empty, insert, update, delete. A key with no slot has the empty one, whose run number 0 is older
--- Table 2, insert; its empty column is the row 'no conflicting tuple'
+-- Table 2, insert; its empty column is that of a key without a slot
 abbrev pub table2 : List ℕ
 table2 = toInsert ∷ impossible ∷ impossible ∷ toInsert
     ∷ impossible ∷ impossible ∷ impossible ∷ toRestore ∷ []

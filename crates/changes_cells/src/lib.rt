@@ -1,4 +1,4 @@
-// The cells of Tables 2 to 4 of the source: what each leaves of a slot, and the cell that a slot's run and operation choose. All
+// The cells of Tables 2 to 4 of RULES.md: what each leaves of a slot, and the cell that a slot's run and operation choose. All
 // here are leaves for our other crates.
 ghost use mathlib.Core.Path.{_≡_};
 ghost use mathlib.Core.Bool.{false};

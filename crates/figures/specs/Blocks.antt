@@ -1,5 +1,5 @@
--- The figures of RULES.md on blocks, computed: the checks of saved blocks, and that no block is saved
--- while a run is active. The program `checks` runs the same on the code. Assumes nothing.
+-- The figures of RULES.md on blocks, computed: the checks of saved blocks, and that no block is saved while a run is active. The
+-- program `blocks_checks` runs the same on the code. Assumes nothing.
 use mathlib.Core.Path.{_≡_, refl}
 use mathlib.Core.List.{List, [], _∷_, _++_}
 use lib.IntN.{ℤ, pos, negsuc}

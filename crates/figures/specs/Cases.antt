@@ -1,6 +1,6 @@
--- The cases of RULES.md, Figures, each as a state, the calls, the numbers expected of each call,
--- and the words and the record expected after; those that the rules do not have say that they are ours. Keys: San Jose
--- golf 1, Berkeley racquetball 2, Novato rollerblades 3; second key is the date, total two is 0. Assumes nothing.
+-- The cases of RULES.md, Figures, each as a state, the calls, the numbers expected of each call, and the words and the record
+-- expected after; those that the rules do not have say that they are ours. Keys: San Jose golf 1, Berkeley racquetball 2, Novato
+-- rollerblades 3; second key is the date, total two is 0. Assumes nothing.
 use mathlib.Core.Bool.{true, false}
 use mathlib.Core.List.{List, [], _∷_, _++_}
 use Prim.Native.Nat.{ℕ}
@@ -57,7 +57,7 @@ rollUpRefused n = pos n ∷ pos 0 ∷ pos 0 ∷ pos 0 ∷ []
 abbrev pub changeRefused : ℕ → List ℤ
 changeRefused n = pos n ∷ pos 0 ∷ []
 
--- ---- the source's Figure 4 in slots 0 to 3, slot 4 empty
+-- ---- the paper's Figure 4 in slots 0 to 3, slot 4 empty
 abbrev pub figure4 : List ℤ
 figure4 =
     slot 3 1 1 19961014 10000 0

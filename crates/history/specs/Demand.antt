@@ -5,9 +5,9 @@ use mathlib.Core.Path.{_≡_}
 use mathlib.Core.Bool.{true, false}
 use mathlib.Core.List.{List, [], map, Perm}
 use Prim.Native.Nat.{ℕ, suc, _≤_, _<_}
-use lib.IntN.{ℤ, pos}
+use lib.IntN.{ℤ, pos, natAbs}
 use lib.ListN.{length}
-use Rattle.calls.specs.Terms.{unlawful}
+use Rattle.calls.specs.Terms.{largestVersion, unlawful}
 use Rattle.calls.specs.Refusals as refusal
 use Rattle.calls.specs.Numbered as numbered
 use Rattle.calls.specs.Seen.{Seen}
@@ -39,9 +39,9 @@ module _ {K : Kind} where
   -- in a run, and both answer the next version
   pub record Runs (w : World K) : Type 0 where
     pub opened : answerOf (K .openSession) w ≡ answer.numbered (numbered.Version (pos (current (w .told))))
-    pub begun : w .told .active ≡ false → current (w .told) < 1000000000 → answerOf (K .begin) w ≡ answer.numbered (numbered.Version (pos (suc (current (w .told)))))
+    pub begun : w .told .active ≡ false → current (w .told) < natAbs largestVersion → answerOf (K .begin) w ≡ answer.numbered (numbered.Version (pos (suc (current (w .told)))))
     pub begun-already : w .told .active ≡ true → answerOf (K .begin) w ≡ answer.numbered (numbered.Refused refusal.runActive)
-    pub no-version-left : w .told .active ≡ false → 1000000000 ≤ current (w .told) → answerOf (K .begin) w ≡ answer.numbered (numbered.Refused refusal.noVersionLeft)
+    pub no-version-left : w .told .active ≡ false → natAbs largestVersion ≤ current (w .told) → answerOf (K .begin) w ≡ answer.numbered (numbered.Refused refusal.noVersionLeft)
     pub committed : w .told .active ≡ true → answerOf (K .commit) w ≡ answer.numbered (numbered.Version (pos (suc (current (w .told)))))
     pub no-run : w .told .active ≡ false → answerOf (K .commit) w ≡ answer.numbered (numbered.Refused refusal.noRun)
 

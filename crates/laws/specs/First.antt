@@ -1,4 +1,5 @@
--- Refusals as one list of (test, number), in the order of the rules: the first that applies is given. Assumes nothing.
+-- Refusals as one list of (test, number), in the order of RULES.md (The order of tests): the first that applies is given. Assumes
+-- nothing.
 use mathlib.Core.Bool.{Bool, cond}
 use mathlib.Core.List.{List, [], _∷_}
 use Prim.Native.Nat.{ℕ, zero, suc}

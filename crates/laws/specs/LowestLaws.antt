@@ -40,16 +40,6 @@ lowest-only {p} {n} {a} {b} x y =
 pub lowest-le : {p : ℕ → Bool} {n r k : ℕ} → Lowest p n r → p k ≡ true → r ≤ k
 lowest-le {p} {n} {r} {k} l h = by-order k r (λ b. clash h (l .below k b)) (λ g. g)
 
--- a test that agrees below the bound gives the same index
-pub lowest-agrees : (p q : ℕ → Bool) (n : ℕ) → ((k : ℕ) → k < n → p k ≡ q k) → lowest p n ≡ lowest q n
-lowest-agrees p q n same =
-    let l = lowest-is q n in
-    lowest-only (lowest-is p n) (record {
-      within = l .within;
-      passes = λ i. same _ i ∙ l .passes i;
-      below = λ k i. same k (omega (arith, l .within)) ∙ l .below k i;
-    })
-
 -- a search passes one more index
 pub below-next : {p : ℕ → Bool} {k : ℕ} → ((j : ℕ) → j < k → p j ≡ false) → p k ≡ false → (j : ℕ) → j < k + 1 → p j ≡ false
 below-next {p} = one-more {P = λ j. p j ≡ false}

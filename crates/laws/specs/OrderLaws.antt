@@ -49,13 +49,6 @@ leZ-trans (negsuc a) b (pos c) h k = refl
 leZ-trans (negsuc a) (pos b) (negsuc c) h k = clash k refl
 leZ-trans (negsuc a) (negsuc b) (negsuc c) h k = le-leb c a (omega (arith, leb-true b a h, leb-true c b k))
 
--- neither is below the other
-pub leZ-antisym : (a b : ℤ) → leZ a b ≡ true → leZ b a ≡ true → a ≡ b
-leZ-antisym (pos a) (pos b) h k = ap pos (omega (arith, leb-true a b h, leb-true b a k))
-leZ-antisym (pos a) (negsuc b) h k = clash h refl
-leZ-antisym (negsuc a) (pos b) h k = clash k refl
-leZ-antisym (negsuc a) (negsuc b) h k = ap negsuc (omega (arith, leb-true b a h, leb-true a b k))
-
 pub record FromTo (a b z : ℤ) : Type 0 where
   pub low : leZ a z ≡ true
   pub high : leZ z b ≡ true

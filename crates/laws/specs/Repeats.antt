@@ -22,7 +22,3 @@ permᴰ-length = by-perm (λ l m. length l ≡ length m) refl (λ a l m. ap suc)
 -- a permutation keeps the length
 pub perm-length : {A : Type 0} {l m : List A} → Perm l m → length l ≡ length m
 perm-length p = ∥∥₁-elim p (ℕ-set _ _) permᴰ-length
-
--- the same members, none twice: the same count
-pub same-count : {A : Type 0} {l m : List A} → List·Nodup l → List·Nodup m → ((a : A) → List·Mem a l ↔ List·Mem a m) → length l ≡ length m
-same-count d e same = perm-length (perm-ext-iff-of-nodup d e .1 same)

@@ -37,6 +37,3 @@ small-fits z h = record { sfits = omega (arith, mag-natAbs z) }
 -- one more term of a running sum stays within its bound, and fits
 pub sum-within : (m k : ℕ) (s t : ℤ) → natAbs s ≤ m * k → natAbs t ≤ m → natAbs (s +ℤ t) ≤ m * k + m
 sum-within m k s t h g = omega (arith, natAbs-sum s t)
-
-pub sum-fits : (m k : ℕ) (s t : ℤ) → natAbs s ≤ m * k → natAbs t ≤ m → m * k + m < small → SFits w64 (s +ℤ t)
-sum-fits m k s t h g l = small-fits (s +ℤ t) (omega (arith, sum-within m k s t h g))

@@ -92,7 +92,3 @@ any-all (t ∷ l) = orAny-all t (not t) l refl
 -- where none holds, the one at a place does not
 pub none-at : (l : List Bool) (k : ℕ) → any l ≡ false → getD l k false ≡ false
 none-at l k e = not-yes (sym (List·getD-map not l k false) ∙ all-at (map not l) k (not-no (sym (any-all l) ∙ e)))
-
--- where the one at a place holds, some does
-pub any-yes : (l : List Bool) (k : ℕ) → getD l k false ≡ true → any l ≡ true
-any-yes l k e = any-all l ∙ ap not (all-no (map not l) k (List·getD-map not l k false ∙ ap not e))

@@ -1,4 +1,5 @@
--- Read a slot: its refusals in the rules' order, its answer, and the contract that says so. Assumes nothing.
+-- Read a slot: its refusals in the order of RULES.md (The order of tests), its answer, and the contract that says so. Assumes
+-- nothing.
 use mathlib.Core.Path.{_≡_, sym, _∙_}
 use mathlib.Core.Bool.{Bool, not}
 use mathlib.Core.List.{List, [], _∷_, _++_}

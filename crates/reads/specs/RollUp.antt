@@ -1,5 +1,5 @@
--- Roll-up: its refusals in the rules' order, its answer, and the contract that says so. What is counted and summed of a
--- list of rows is `tally`, which knows no table. Assumes nothing.
+-- Roll-up: its refusals in the order of RULES.md (The order of tests), its answer, and the contract that says so. What is counted
+-- and summed of a list of rows is `tally`, which knows no table. Assumes nothing.
 use mathlib.Core.Path.{_≡_, sym, _∙_}
 use mathlib.Core.Bool.{Bool, cond}
 use mathlib.Core.List.{List, [], _∷_, _++_}

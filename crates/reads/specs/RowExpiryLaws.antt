@@ -1,6 +1,6 @@
--- The source's expiry test of a row never applies after 4 and 6: the run number of a slot that is not broken is at most the last
--- run's, and an open session is at least the number before that (`open-reaches`). And by itself it isn't enough: one table of
--- zeros shows it. Assumes nothing.
+-- The paper's expiry test of a row (RULES.md, Reads) never applies after 4 and 6: the run number of a slot that is not broken is
+-- at most the last run's, and an open session is at least the number before that (`open-reaches`). And by itself it isn't enough:
+-- one table of zeros shows it. Assumes nothing.
 use mathlib.Core.Path.{_≡_, refl}
 use mathlib.Core.Bool.{true, false}
 use mathlib.Core.List.{List}

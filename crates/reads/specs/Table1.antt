@@ -1,4 +1,4 @@
--- Table 1 of the source: what a session sees of a slot. Only this crate unfolds `shown`. Assumes nothing.
+-- Table 1 of RULES.md (The decision tables): what a session sees of a slot. Only this crate unfolds `shown`. Assumes nothing.
 use mathlib.Core.Bool.{cond}
 use mathlib.Core.List.{List, [], _∷_}
 use Prim.Native.Nat.{ℕ}

@@ -1,5 +1,5 @@
--- The laws of Table 1, one for each sentence of the rules: each is one cell. And one of totals: those of a row that is
--- shown of a well formed slot are lawful, since both its pairs are. Assumes nothing.
+-- The laws of Table 1, one for each sentence of RULES.md (The decision tables): each is one cell. And one of totals: those of a
+-- row that is shown of a well formed slot are lawful, since both its pairs are. Assumes nothing.
 use mathlib.Core.Path.{_≡_, refl}
 use mathlib.Core.Bool.{true, false}
 use lib.IntN.{ℤ}

@@ -1,5 +1,5 @@
 -- The refusals by name, as definitions say them: each list of tests has the test and the name of the number that it gives.
--- Assumes nothing.
+-- RULES.md, Refusals. Assumes nothing.
 use Prim.Native.Nat.{ℕ}
 
 -- the table's length is 0, not a multiple of 8, or above 8,192 words

@@ -1,4 +1,5 @@
--- What a line asks: a letter and its numbers, fields parted by one space. Anything else is a bad line. Assumes nothing.
+-- What a line asks: a letter and its numbers, fields parted by one space. Anything else is a bad line. RULES.md, The program
+-- steps. Assumes nothing.
 use mathlib.Core.Bool.{Bool, false, cond, _&&_}
 use mathlib.Core.List.{List, [], _∷_}
 use Prim.Native.Nat.{ℕ, _+_}

@@ -1,4 +1,5 @@
--- A number in a line: an optional minus and 1 to 19 decimal digits, within signed 64 bits. Assumes nothing.
+-- A number in a line: an optional minus and 1 to 19 decimal digits, within signed 64 bits. RULES.md, The program steps. Assumes
+-- nothing.
 use mathlib.Core.Bool.{Bool, true, cond, _&&_}
 use mathlib.Core.List.{List, [], _∷_}
 use Prim.Native.Nat.{ℕ, _+_, _*_, _-_}

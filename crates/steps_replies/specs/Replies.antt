@@ -1,4 +1,5 @@
--- What is answered to a line: a word and its numbers, a space before each, and a newline. Assumes nothing.
+-- What is answered to a line: a word and its numbers, a space before each, and a newline. RULES.md, The program steps. Assumes
+-- nothing.
 use mathlib.Core.List.{List, [], _∷_, _++_}
 use Prim.Native.Nat.{ℕ}
 use lib.IntN.{ℤ, pos}

@@ -1,5 +1,5 @@
--- The table as slots: how many there are, refusal 1, the slot at a place, and a slot put at a place.
--- Above this module nobody speaks of words. Only this crate unfolds `badTable`, `slotAt` and `putSlot`. Assumes nothing.
+-- The table as slots: how many there are, refusal 1, the slot at a place, and a slot put at a place. Only this crate unfolds
+-- `badTable`, `slotAt` and `putSlot`. RULES.md, The table and its slots. Assumes nothing.
 use mathlib.Core.Bool.{Bool, not}
 use mathlib.Core.List.{List, [], _∷_}
 use Prim.Native.Nat.{ℕ, _+_, _*_, _/_, _%_}

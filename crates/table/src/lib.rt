@@ -13,7 +13,7 @@ pub const MOST_SLOTS: usize = 1024;
 pub const MOST_WORDS: usize = MOST_SLOTS * SLOT_WORDS;
 
 // The places of a slot's words.
-pub const RUN: usize = 0;
+const RUN: usize = 0;
 
 pub const OPERATION: usize = 1;
 

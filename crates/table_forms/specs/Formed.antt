@@ -1,5 +1,5 @@
 -- A well formed slot, and refusal 6. Only this crate unfolds the definitions here; what they mean outside is `Used` of
--- `FormedLaws`. Assumes nothing.
+-- `FormedLaws`. RULES.md, The table and its slots. Assumes nothing.
 use mathlib.Core.Bool.{Bool, not, _&&_, _||_}
 use mathlib.Core.List.{List, [], _∷_}
 use lib.IntN.{ℤ, pos}

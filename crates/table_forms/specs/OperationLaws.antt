@@ -18,11 +18,6 @@ column-below x =
     (λ a. by-test (eqZ (x .operation) updateOperation) (λ y. rw (a, y) (lit< tt))
     (λ b. by-test (eqZ (x .operation) deleteOperation) (λ y. rw (a, b, y) (lit< tt)) (λ d. rw (a, b, d) (lit< tt))))
 
--- both go by the operation alone
-pub column-same : (x y : Slot) → x .operation ≡ y .operation → column x ≡ column y
-unfolding column
-column-same x y e = rw e refl
-
 pub live-same : (x y : Slot) → x .operation ≡ y .operation → live x ≡ live y
 unfolding live
 live-same x y e = rw e refl

@@ -1,5 +1,5 @@
--- The operation word of a slot: its values, its column in the decision tables, and live. Only this crate unfolds
--- `column` and `live`. Assumes nothing.
+-- The operation word of a slot: its values, its column in the decision tables, and live. Only this crate unfolds `column` and
+-- `live`. RULES.md, The table and its slots. Assumes nothing.
 use mathlib.Core.Bool.{Bool, cond, _||_}
 use Prim.Native.Nat.{ℕ}
 use lib.IntN.{ℤ, pos}
@@ -26,10 +26,10 @@ column x =
     (cond (eqZ (x .operation) updateOperation) 2
     (cond (eqZ (x .operation) deleteOperation) 3 0))
 
--- a slot is live if its operation is 1 or 2
-unfoldable pub live : Slot → Bool
-live x = eqZ (x .operation) insertOperation || eqZ (x .operation) updateOperation
-
--- live, of the operation word alone
+-- an operation word is that of a live slot: 1 or 2
 abbrev pub liveWord : ℤ → Bool
 liveWord z = eqZ z insertOperation || eqZ z updateOperation
+
+-- a slot is live if its operation is 1 or 2
+unfoldable pub live : Slot → Bool
+live x = liveWord (x .operation)

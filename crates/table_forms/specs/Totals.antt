@@ -1,4 +1,5 @@
--- Which totals are lawful, and refusal 13. Only this crate unfolds the two; what is above uses the laws. Assumes nothing.
+-- Which totals are lawful, and refusal 13. Only this crate unfolds the two; what is above uses the laws. RULES.md, The table and
+-- its slots. Assumes nothing.
 use mathlib.Core.Bool.{Bool, not, _&&_, true}
 use lib.IntN.{ℤ, pos, negsuc}
 use Rattle.laws.specs.Order.{fromTo}

@@ -12,6 +12,8 @@ use table::Slot;
 use versions::VersionRecord;
 
 // The operation word.
+pub const EMPTY: i64 = 0;
+
 pub const INSERT: i64 = 1;
 
 pub const UPDATE: i64 = 2;
@@ -118,7 +120,7 @@ pub fn well_formed(x: Slot, versions: VersionRecord) -> bool
     ensures { λ r. ⌜ r ≡ wellFormed x versions ⌝ }
 {
     let operation = x.operation;
-    if operation == 0 {
+    if operation == EMPTY {
         return all_zeros(x);
     }
     used_well(x, versions)

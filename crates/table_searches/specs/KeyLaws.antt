@@ -42,11 +42,6 @@ pub keyed-has : {x : Slot} {key1 key2 : ℤ} → Keyed x key1 key2 → hasKey x 
 unfolding hasKey
 keyed-has k = all-yes _ (ap not (k .used), (eqZ-same (k .key1), (eqZ-same (k .key2), tt)))
 
--- of a used slot only the key words are asked
-pub key-words : (x : Slot) (key1 key2 : ℤ) → eqZ (x .operation) emptyOperation ≡ false → hasKey x key1 key2 ≡ eqZ (x .key1) key1 && eqZ (x .key2) key2
-unfolding hasKey all
-key-words x key1 key2 u = rw u refl
-
 -- a slot with another second key word has not the key
 pub other-key : (x : Slot) (key1 key2 : ℤ) → eqZ (x .key2) key2 ≡ false → hasKey x key1 key2 ≡ false
 unfolding hasKey

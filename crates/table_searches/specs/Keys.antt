@@ -1,5 +1,5 @@
--- A key's slot, and live keys. Only this crate unfolds `hasKey` and `keySlot`; how the search goes is nobody else's.
--- Assumes nothing.
+-- A key's slot, and live keys. Only this crate unfolds `hasKey` and `keySlot`; how the search goes is nobody else's. RULES.md,
+-- The table and its slots. Assumes nothing.
 use mathlib.Core.Bool.{Bool, not}
 use mathlib.Core.List.{List, [], _∷_}
 use Prim.Native.Nat.{ℕ}

@@ -32,7 +32,7 @@ fn has_key(table: &[i64], k: usize, key1: i64, key2: i64) -> bool
     if table[at + KEY1] != key1 {
         return false;
     }
-    if table[at + OPERATION] == 0 {
+    if table[at + OPERATION] == table_forms::EMPTY {
         return false;
     }
     true

@@ -1,5 +1,5 @@
--- The version record: the largest version, the fresh record, refusal 2, and the run numbers that follow from a
--- record. Only this crate unfolds `badRecord`; what it means outside is `Sound` of `RecordLaws`. Assumes nothing.
+-- The version record: the largest version, the fresh record, refusal 2, and the run numbers that follow from a record. Only this
+-- crate unfolds `badRecord`; what it means outside is `Sound` of `RecordLaws`. RULES.md, The version record. Assumes nothing.
 use mathlib.Core.Bool.{Bool, false, cond, not, _&&_}
 use mathlib.Core.List.{[], _∷_}
 use lib.IntN.{ℤ, pos, _+ℤ_}

@@ -1,5 +1,5 @@
--- Open, begin and commit: the refusals of each in the rules' order, its answer, the record that it leaves, and the
--- contract that says so. Each contract allows one outcome. Assumes nothing.
+-- Open, begin and commit: the refusals of each in the order of RULES.md (The order of tests), its answer, the record that it
+-- leaves, and the contract that says so. Each contract allows one outcome. Assumes nothing.
 use mathlib.Core.Path.{_≡_}
 use mathlib.Core.Bool.{Bool, true, false}
 use mathlib.Core.List.{List, [], _∷_}

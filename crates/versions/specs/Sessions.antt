@@ -1,4 +1,4 @@
--- Which sessions are open: refusals 3 and 4. Only this crate unfolds the two. Assumes nothing.
+-- Which sessions are open: refusals 3 and 4. Only this crate unfolds the two. RULES.md, Runs and sessions. Assumes nothing.
 use mathlib.Core.Bool.{Bool, _&&_}
 use mathlib.Core.List.{[], _∷_}
 use lib.IntN.{ℤ, pos, _-ℤ_}

@@ -43,8 +43,8 @@ found : (c : tie.After-key-slot) → let a = start (c .before) .args in c .key-s
 found c = let f = start (c .before) .fits in rw (plain _ (f .key1), plain _ (f .key2)) at (c .key-slot .ensures)
 
 -- the place past the session's tests, from that where the key has a slot
-abbrev searched : tie.Else2 → Allowed
-searched c = c .before .before .before
+abbrev allowed-to : tie.Else2 → Allowed
+allowed-to c = c .before .before .before
 
 is1-to-4 : tie.Need-returns
 unfolding readKeyRefusal readKeyAnswer sessionRefusal
@@ -76,4 +76,4 @@ read-key-spec =
     (tie.spec (λ c κs. search needs) is1-to-4
     (λ c κs. can c .table)
     (λ c κs. search needs) absent
-    (λ c κs. can (searched c) .table) (λ c κs. can (searched (c .before)) .known) shows)
+    (λ c κs. can (allowed-to c) .table) (λ c κs. can (allowed-to (c .before)) .known) shows)

@@ -5,7 +5,7 @@ use Prim.Native.Nat.{_+_, _*_}
 use native.Mathlib.Nat.{add-zero}
 use borrow.Author.Needs.{needs}
 use Rattle.laws.specs.Bits.{plain}
-use Rattle.table.specs.Slots.{slotAt, word}
+use Rattle.table.specs.Slots.{slotWords, slotAt, word}
 use Rattle.table.specs.SlotLaws.{slotAt-past}
 use Rattle.table.proofs.slot_at.Statement.{statement}
 use Rattle.table.proofs.slot_at.Tie as tie
@@ -28,7 +28,7 @@ returns-2 c =
     let read1 = read2 .before in
     let a = read1 .before .before .before .args in
     let t = a .table .now in
-    let at = a .k * 8 in
+    let at = a .k * slotWords in
     simp (
       plain (word t at) (rw (sym (add-zero at)) (record { sfits = read1 .t8 .given })),
       add-zero at,

@@ -11,7 +11,7 @@ use borrow.Author.Needs.{needs}
 use Rattle.laws.specs.TestLaws.{all-at}
 use Rattle.laws.specs.Tests.{all}
 use Rattle.laws.specs.Bits.{plain}
-use Rattle.table.specs.Slots.{word}
+use Rattle.table.specs.Slots.{slotWords, word}
 use Rattle.table.specs.SlotLaws.{operation-at, word-on}
 use Rattle.table_forms.specs.OperationLaws.{live-word}
 use Rattle.table_forms.specs.Operations.{liveWord}
@@ -33,10 +33,10 @@ returns c h =
     let k = s .args .k in
     let tests = first .lives .result ∷ second .lives2 .result ∷ third .lives3 .result ∷ c .lives4 .result ∷ [] in
     record {
-      first = live-word _ ∙ rw (operation-at t k) (lives t (k * 8 + 1) (record { sfits = first .before .lives-arg .given }) (first .lives .ensures) (all-at tests 0 h));
-      second = live-word _ ∙ rw (operation-at t (k + 1), word-on t k 1 1) (lives t (k * 8 + 8 + 1) (record { sfits = second .before .lives-arg2 .given }) (second .lives2 .ensures) (all-at tests 1 h));
-      third = live-word _ ∙ rw (operation-at t (k + 2), word-on t k 2 1) (lives t (k * 8 + 16 + 1) (record { sfits = third .before .lives-arg3 .given }) (third .lives3 .ensures) (all-at tests 2 h));
-      fourth = live-word _ ∙ rw (operation-at t (k + 3), word-on t k 3 1) (lives t (k * 8 + 24 + 1) (record { sfits = c .before .lives-arg4 .given }) (c .lives4 .ensures) (all-at tests 3 h));
+      first = live-word _ ∙ rw (operation-at t k) (lives t (k * slotWords + 1) (record { sfits = first .before .lives-arg .given }) (first .lives .ensures) (all-at tests 0 h));
+      second = live-word _ ∙ rw (operation-at t (k + 1), word-on t k 1 1) (lives t (k * slotWords + slotWords + 1) (record { sfits = second .before .lives-arg2 .given }) (second .lives2 .ensures) (all-at tests 1 h));
+      third = live-word _ ∙ rw (operation-at t (k + 2), word-on t k 2 1) (lives t (k * slotWords + 2 * slotWords + 1) (record { sfits = third .before .lives-arg3 .given }) (third .lives3 .ensures) (all-at tests 2 h));
+      fourth = live-word _ ∙ rw (operation-at t (k + 3), word-on t k 3 1) (lives t (k * slotWords + 3 * slotWords + 1) (record { sfits = c .before .lives-arg4 .given }) (c .lives4 .ensures) (all-at tests 3 h));
     }
 
 pub four-live-spec : {M : Type 1} → statement M

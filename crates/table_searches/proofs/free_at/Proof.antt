@@ -5,14 +5,14 @@ use mir.Syntax.{w64}
 use mir.Val.{SFits}
 use borrow.Author.Needs.{needs}
 use Rattle.laws.specs.Bits.{plain}
-use Rattle.table.specs.Slots.{word}
+use Rattle.table.specs.Slots.{slotWords, word}
 use Rattle.table.specs.SlotLaws.{operation-at}
 use Rattle.table_forms.specs.OperationLaws.{live-word}
 use Rattle.table_searches.specs.FreeLaws.{live-kept}
 use Rattle.table_searches.proofs.free_at.Statement.{statement}
 use Rattle.table_searches.proofs.free_at.Tie as tie
 
-fits : (c : tie.After-lives-arg) → SFits w64 (word (c .before .args .table .now) (c .before .args .k * 8 + 1))
+fits : (c : tie.After-lives-arg) → SFits w64 (word (c .before .args .table .now) (c .before .args .k * slotWords + 1))
 fits c = record { sfits = c .lives-arg .given }
 
 returns : tie.Need-returns

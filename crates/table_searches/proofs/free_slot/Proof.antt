@@ -43,9 +43,9 @@ rest c κs =
 returns : tie.Need-returns Inv-loop μ-loop
 returns c =
     let searched = c .before in
-    let four = searched .before .before in
+    let passed = searched .before .before in
     let s = searched .free-from .ensures in
-    slot-is (four .before .before) (found (s .below) (omega arith) (s .passes (c .if2 .taken)))
+    slot-is (passed .before .before) (found (s .below) (omega arith) (s .passes (c .if2 .taken)))
 
 -- four more are passed, since they are live or since none of them is free
 again : tie.Need-loop-again Inv-loop μ-loop

@@ -44,9 +44,9 @@ four c κs =
 returns : tie.Need-returns Inv-loop μ-loop
 returns c =
     let searched = c .before in
-    let four = searched .before .before in
+    let passed = searched .before .before in
     let s = searched .key-from .ensures in
-    slot-is (four .before .before) (found (s .below) (omega arith) (s .passes (c .if2 .taken)))
+    slot-is (passed .before .before) (found (s .below) (omega arith) (s .passes (c .if2 .taken)))
 
 -- four more are passed, since they lie apart or since none of them has the key
 again : tie.Need-loop-again Inv-loop μ-loop
