@@ -4,41 +4,33 @@
        rt staticlib probe
        cc -I include -o host examples/host.c target/staticlib/libprobe.a && ./host */
 #include <stdio.h>
-#include <stdlib.h>
 #include "probe.h"
 
 enum { WORDS = 8 * PROBE_SLOT_WORDS, STORE = 1, DAY = 19961014 };
 
 static int64_t table[WORDS], record[PROBE_RECORD_WORDS] = PROBE_FRESH_RECORD, out[PROBE_OUT_WORDS];
 
-/* Ends the host at a refusal that it has no answer to. */
-static void accepted(void)
-{
-    if (out[PROBE_REFUSAL] != PROBE_ACCEPTED)
-        exit((int)out[PROBE_REFUSAL]);
-}
-
-/* A run that stores a total, and the version that it makes. A row that is there already is updated. */
+/* A run that stores a total, a row that is there already being updated: the version that it makes, 0 where it is refused. */
 static int64_t refresh(int64_t total)
 {
-    probe_begin(record, out), accepted();
+    probe_begin(record, out);
     probe_insert(table, WORDS, record, STORE, DAY, total, 0, out);
     if (out[PROBE_REFUSAL] == PROBE_KEY_LIVE)
         probe_update(table, WORDS, record, STORE, DAY, total, 0, out);
-    accepted();
-    probe_commit(record, out), accepted();
+    if (out[PROBE_REFUSAL] == PROBE_ACCEPTED)
+        probe_commit(record, out);
     return out[PROBE_VERSION];
 }
 
 static void report(int64_t session)
 {
     probe_read_key(table, WORDS, record, session, STORE, DAY, out);
-    if (out[PROBE_REFUSAL] == PROBE_EXPIRED) {
+    if (out[PROBE_REFUSAL] == PROBE_EXPIRED)
         printf("session %d has expired\n", (int)session);
-        return;
-    }
-    accepted();
-    printf("session %d reads %lld\n", (int)session, (long long)out[PROBE_TOTAL1]);
+    else if (out[PROBE_REFUSAL] != PROBE_ACCEPTED)
+        printf("session %d is refused %d\n", (int)session, (int)out[PROBE_REFUSAL]);
+    else
+        printf("session %d reads %lld\n", (int)session, (long long)out[PROBE_TOTAL1]);
 }
 
 int main(void)

@@ -5,7 +5,7 @@
 
 made=target/second
 default_seed=1
-default_count=1500000
+default_count=1000000
 
 # The C program that makes the calls.
 build_caller() { # ARCHIVE FOLDER
@@ -16,8 +16,8 @@ caller_command() { # FOLDER
     program_command "$1/caller"
 }
 
-# The Rust program. Cargo keeps its own files below target/ too.
+# The Rust program. Cargo keeps its own files below the folder too.
 build_program() { # SOURCE FOLDER
-    CARGO_HOME=$PWD/$made/cargo cargo build --quiet --release --offline --locked --jobs 2 \
+    CARGO_HOME=$(realpath -m "$2/cargo") cargo build --quiet --release --offline --locked --jobs 2 \
         --manifest-path "$1/Cargo.toml" --target-dir "$2"
 }

@@ -8,7 +8,7 @@ use lib.IntN.{ℤ}
 use Rattle.laws.specs.TestLaws.{not-no}
 use Rattle.laws.specs.FirstLaws.{none}
 use Rattle.versions.specs.declared.VersionRecord.{VersionRecord}
-use Rattle.table_searches.specs.Keys.{keySlot}
+use Rattle.table_keys.specs.Keys.{keySlot}
 use Rattle.changes.specs.declared.Placed.{Placed}
 use Rattle.changes.specs.declared.Placed.the-variants.{InSlot, Refused}
 use Rattle.changes.specs.Insert.{insertRefusal, insertAnswer, insertWords}

@@ -10,8 +10,8 @@ use Rattle.versions.specs.declared.VersionRecord.{VersionRecord}
 use Rattle.versions.specs.Record.{badRecord, idle}
 use Rattle.table.specs.Slots.{badTable, slots}
 use lib.Dec.{ltb}
-use Rattle.table_searches.specs.Keys.{keySlot, keyLive, keyed}
-use Rattle.table_searches.specs.Free.{freeSlot}
+use Rattle.table_keys.specs.Keys.{keySlot, keyLive, keyed}
+use Rattle.table_free.specs.Free.{freeSlot}
 use Rattle.table_forms.specs.Totals.{unlawful}
 use Rattle.table_forms.specs.Formed.{broken}
 

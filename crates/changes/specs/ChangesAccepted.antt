@@ -22,10 +22,10 @@ use Rattle.table_forms.specs.TotalLaws.{given}
 use Rattle.table_forms.specs.Totals.{Given}
 use Rattle.table_forms.specs.Formed.{wellFormed}
 use Rattle.table_forms.specs.FormedLaws.{Used, live-used, formed-cases, dead-deleted}
-use Rattle.table_searches.specs.Keys.{hasKey, keySlot, keyed, keyLive}
-use Rattle.table_searches.specs.KeyLaws.{Keyed, has-key, keySlot-is, empty-keyless, absent-empty, absent-nowhere, live-placed}
-use Rattle.table_searches.specs.Free.{free, freeSlot}
-use Rattle.table_searches.specs.FreeLaws.{freeSlot-is, free-cases}
+use Rattle.table_keys.specs.Keys.{hasKey, keySlot, keyed, keyLive}
+use Rattle.table_keys.specs.KeyLaws.{Keyed, has-key, keySlot-is, empty-keyless, absent-empty, absent-nowhere, live-placed}
+use Rattle.table_free.specs.Free.{free, freeSlot}
+use Rattle.table_free.specs.FreeLaws.{freeSlot-is, free-cases}
 use Rattle.reads.specs.declared.Seen.{Seen}
 use Rattle.reads.specs.declared.Seen.the-variants.{Row, NoRow}
 use Rattle.reads.specs.Table1.{shown}

@@ -23,9 +23,9 @@ use Rattle.table_forms.specs.Operations.{live}
 use Rattle.table_forms.specs.Totals.{unlawful}
 use Rattle.table_forms.specs.Formed.{wellFormed, broken}
 use Rattle.table_forms.specs.FormedLaws.{dead-deleted}
-use Rattle.table_searches.specs.Keys.{keySlot, keyed, keyLive}
-use Rattle.table_searches.specs.Free.{free, freeSlot}
-use Rattle.table_searches.specs.FreeLaws.{freeSlot-is, busy}
+use Rattle.table_keys.specs.Keys.{keySlot, keyed, keyLive}
+use Rattle.table_free.specs.Free.{free, freeSlot}
+use Rattle.table_free.specs.FreeLaws.{freeSlot-is, busy}
 use Rattle.reads.specs.Table1.{shown, currentRow, oldRow}
 use Rattle.reads.specs.Table1Laws.{shown-current, shown-removed}
 use Rattle.changes.specs.Effects.{run-within}

@@ -9,7 +9,7 @@ use Rattle.laws.specs.First.{first, unless}
 use Rattle.versions.specs.declared.VersionRecord.{VersionRecord}
 use Rattle.versions.specs.Record.{runNumber}
 use Rattle.table.specs.Slots.{putSlot}
-use Rattle.table_searches.specs.Keys.{keySlot, keyed}
+use Rattle.table_keys.specs.Keys.{keySlot, keyed}
 use Rattle.changes.specs.declared.Placed.{Placed}
 use Rattle.changes.specs.declared.Placed.the-variants.{InSlot, Refused}
 use Rattle.changes_cells.specs.Tables.{deleted}

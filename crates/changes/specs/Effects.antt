@@ -19,7 +19,7 @@ use Rattle.table_forms.specs.TotalLaws.{lawful-zero}
 use Rattle.table_forms.specs.Totals.{Given}
 use Rattle.table_forms.specs.Formed.{wellFormed}
 use Rattle.table_forms.specs.FormedLaws.{Used, used-formed, empty-formed}
-use Rattle.table_searches.specs.KeyLaws.{Keyed}
+use Rattle.table_keys.specs.KeyLaws.{Keyed}
 use Rattle.reads.specs.declared.Seen.{Seen}
 use Rattle.reads.specs.declared.Seen.the-variants.{Row, NoRow, Refused}
 use Rattle.reads.specs.Table1.{shown}

@@ -13,7 +13,7 @@ use Rattle.table.specs.declared.Slot.{Slot}
 use Rattle.table.specs.Slots.{slotAt}
 use Rattle.table_forms.specs.Operations.{live}
 use Rattle.table_forms.specs.Formed.{broken}
-use Rattle.table_searches.specs.Keys.{keySlot, keyed, keyLive}
+use Rattle.table_keys.specs.Keys.{keySlot, keyed, keyLive}
 
 pub record Looked (t : List ℤ) (v : VersionRecord) (key1 key2 : ℤ) (k : ℕ) (x : Slot) (b : Bool) : Type 0 where
   pub number : k ≡ keySlot t key1 key2

@@ -13,8 +13,8 @@ use Rattle.versions.specs.Record.{runNumber}
 use Rattle.table.specs.declared.Slot.{Slot}
 use Rattle.table.specs.Slots.{badTable, putSlot}
 use Rattle.table_forms.specs.Formed.{broken}
-use Rattle.table_searches.specs.Keys.{keySlot, keyed}
-use Rattle.table_searches.specs.KeyLaws.{live-keyed}
+use Rattle.table_keys.specs.Keys.{keySlot, keyed}
+use Rattle.table_keys.specs.KeyLaws.{live-keyed}
 use Rattle.changes.specs.declared.Placed.{Placed}
 use Rattle.changes.specs.declared.Placed.the-variants.{InSlot, Refused}
 use Rattle.changes_cells.specs.Tables.{changed, inserted, updated, deleted}

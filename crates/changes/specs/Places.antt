@@ -12,7 +12,7 @@ use Rattle.laws.specs.FirstLaws.{none}
 use Rattle.versions.specs.declared.VersionRecord.{VersionRecord}
 use Rattle.table.specs.Slots.{mostSlots, badTable, slots}
 use Rattle.table.specs.SlotLaws.{lengths}
-use Rattle.table_searches.specs.KeyLaws.{live-placed}
+use Rattle.table_keys.specs.KeyLaws.{live-placed}
 use Rattle.changes.specs.declared.Placed.{Placed}
 use Rattle.changes.specs.declared.Placed.the-variants.{InSlot}
 use Rattle.changes.specs.Insert.{insertRefusal, insertAnswer}

@@ -13,7 +13,7 @@ use Rattle.table.specs.declared.Slot.{Slot}
 use Rattle.table.specs.Slots.{badTable, slots, slotAt, putSlot}
 use Rattle.table.specs.SlotLaws.{put-same, put-other, put-sound}
 use Rattle.table_forms.specs.Formed.{wellFormed}
-use Rattle.table_searches.specs.Keys.{hasKey}
+use Rattle.table_keys.specs.Keys.{hasKey}
 use Rattle.reads.specs.declared.Seen.{Seen}
 use Rattle.changes.specs.Effects.{Effect}
 

@@ -7,7 +7,7 @@ ghost use Prim.Native.Nat.{_<_};
 ghost use lib.Dec.{ltb};
 ghost use Rattle.versions.specs.Record.{badRecord};
 ghost use Rattle.table.specs.Slots.{badTable, slots};
-ghost use Rattle.table_searches.specs.Free.{freeSlot};
+ghost use Rattle.table_free.specs.Free.{freeSlot};
 ghost use Rattle.changes.specs.ChangeTests.{runningRefusal, givenRefusal};
 ghost use Rattle.changes.specs.Insert.{InsertContract};
 ghost use Rattle.changes.specs.Update.{UpdateContract};
@@ -86,7 +86,7 @@ fn slot_to_take(table: &[i64], versions: VersionRecord, k: usize) -> usize
     if k < table::slots_of(table) {
         return k;
     }
-    table_searches::free_slot(table, versions)
+    table_free::free_slot(table, versions)
 }
 
 // An insert past 13: 6, 10, 12, and the write by Table 2.
@@ -102,7 +102,7 @@ fn add_row(
     requires { ⌜ badRecord versions ≡ false ⌝ }
     ensures { λ r. ⌜ RowAdded (now (table .entry)) versions key1 key2 total1 total2 r (now (table .exit)) ⌝ }
 {
-    let k = table_searches::key_slot(table, key1, key2);
+    let k = table_keys::key_slot(table, key1, key2);
     let x = table::slot_at(table, k);
     if table_forms::is_broken(x, versions) {
         return Placed::Refused(refusals::BROKEN_SLOT);
@@ -135,7 +135,7 @@ fn change_row(
     requires { ⌜ badRecord versions ≡ false ⌝ }
     ensures { λ r. ⌜ RowChanged cells (now (table .entry)) versions key1 key2 total1 total2 r (now (table .exit)) ⌝ }
 {
-    let k = table_searches::key_slot(table, key1, key2);
+    let k = table_keys::key_slot(table, key1, key2);
     let x = table::slot_at(table, k);
     if table_forms::is_broken(x, versions) {
         return Placed::Refused(refusals::BROKEN_SLOT);

@@ -18,8 +18,8 @@ use Rattle.table.specs.Slots.{badTable, slotAt, putSlot}
 use Rattle.table_forms.specs.Operations.{column, live}
 use Rattle.table_forms.specs.Totals.{lawful, unlawful}
 use Rattle.table_forms.specs.Formed.{allZeros, totalsLawful, usedWell, wellFormed, anyBroken}
-use Rattle.table_searches.specs.Keys.{hasKey, keySlot}
-use Rattle.table_searches.specs.Free.{longDeleted, free, freeSlot}
+use Rattle.table_keys.specs.Keys.{hasKey, keySlot}
+use Rattle.table_free.specs.Free.{longDeleted, free, freeSlot}
 use Rattle.reads.specs.declared.Seen.the-variants as seen
 use Rattle.reads.specs.declared.Rolled.the-variants as rolled
 use Rattle.reads.specs.Table1.{shown}

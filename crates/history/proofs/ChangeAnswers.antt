@@ -20,9 +20,9 @@ use Rattle.table_forms.specs.Operations.{live}
 use Rattle.table_forms.specs.OperationLaws.{dead-empty}
 use Rattle.table_forms.specs.Formed.{wellFormed}
 use Rattle.table_forms.specs.FormedLaws.{formed-cases, dead-deleted}
-use Rattle.table_searches.specs.Keys.{keySlot, keyed, keyLive}
-use Rattle.table_searches.specs.KeyLaws.{keySlot-is, absent-nowhere}
-use Rattle.table_searches.specs.Free.{free}
+use Rattle.table_keys.specs.Keys.{keySlot, keyed, keyLive}
+use Rattle.table_keys.specs.KeyLaws.{keySlot-is, absent-nowhere}
+use Rattle.table_free.specs.Free.{free}
 use Rattle.reads.specs.Table1.{shown}
 use Rattle.reads.specs.Table1Laws.{shown-current, shown-deleted, shown-empty}
 use Rattle.changes.specs.Effects.{run-within}

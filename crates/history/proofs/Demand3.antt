@@ -11,7 +11,7 @@ use Rattle.versions.specs.declared.VersionRecord.{VersionRecord}
 use Rattle.versions.specs.Record.{badRecord}
 use Rattle.table.specs.Slots.{slots}
 use Rattle.table.specs.SlotLaws.{lengths}
-use Rattle.table_searches.specs.Keys.{keySlot}
+use Rattle.table_keys.specs.Keys.{keySlot}
 use Rattle.changes.specs.Whole.{Whole, KeysApart}
 use Rattle.calls.specs.Calls.{Call}
 use Rattle.history.specs.Followed.{starting}

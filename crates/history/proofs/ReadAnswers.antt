@@ -7,7 +7,7 @@ use Prim.Native.Nat.{ℕ, zero, suc}
 use lib.IntN.{ℤ, pos}
 use Rattle.table.specs.Slots.{badTable, slotAt}
 use Rattle.table_forms.specs.FormedLaws.{all-formed}
-use Rattle.table_searches.specs.Keys.{keySlot}
+use Rattle.table_keys.specs.Keys.{keySlot}
 use Rattle.reads.specs.Table1.{shown}
 use Rattle.reads.specs.RollUp
 use Rattle.reads.specs.ReadOutcomes.{key-expired, key-shown, roll-up-expired, roll-up-summed, slot-expired, slot-past, slot-shown}

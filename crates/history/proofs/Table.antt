@@ -22,8 +22,8 @@ use Rattle.versions.specs.RunLaws.{can-begin, can-commit}
 use Rattle.table.specs.Slots.{slots, slotAt, freshTable}
 use Rattle.table.specs.SlotLaws.{put-length, fresh-slots, fresh-shape, fresh-slot}
 use Rattle.table_forms.specs.FormedLaws.{formed-cases, formed-later, empty-formed}
-use Rattle.table_searches.specs.Keys.{hasKey, keySlot}
-use Rattle.table_searches.specs.KeyLaws.{has-key, keyed-has, keySlot-is, empty-keyless, absent-empty, absent-nowhere}
+use Rattle.table_keys.specs.Keys.{hasKey, keySlot}
+use Rattle.table_keys.specs.KeyLaws.{has-key, keyed-has, keySlot-is, empty-keyless, absent-empty, absent-nowhere}
 use Rattle.reads.specs.declared.Seen.{Seen}
 use Rattle.reads.specs.Table1.{shown}
 use Rattle.reads.specs.Table1Laws.{shown-empty}

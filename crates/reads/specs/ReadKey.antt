@@ -9,7 +9,7 @@ use Rattle.refusals.specs.Refusals as refusal
 use Rattle.laws.specs.First.{first, unless}
 use Rattle.versions.specs.declared.VersionRecord.{VersionRecord}
 use Rattle.table_forms.specs.Formed.{broken}
-use Rattle.table_searches.specs.Keys.{keyed}
+use Rattle.table_keys.specs.Keys.{keyed}
 use Rattle.reads.specs.declared.Seen.{Seen}
 use Rattle.reads.specs.declared.Seen.the-variants.{Refused}
 use Rattle.reads.specs.Table1.{shown}

@@ -13,7 +13,7 @@ use Rattle.versions.specs.Record.{badRecord}
 use Rattle.versions.specs.Sessions.{unborn, expired}
 use Rattle.table.specs.Slots.{badTable, slots, slotAt}
 use Rattle.table_forms.specs.Formed.{wellFormed, anyBroken}
-use Rattle.table_searches.specs.Keys.{keyed}
+use Rattle.table_keys.specs.Keys.{keyed}
 use Rattle.reads.specs.declared.Seen.the-variants.{Refused}
 use Rattle.reads.specs.declared.Rolled.the-variants as rolled
 use Rattle.reads.specs.Table1.{shown}

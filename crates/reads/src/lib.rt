@@ -154,7 +154,7 @@ pub fn read_key(table: &[i64], versions: VersionRecord, session: i64, key1: i64,
     if refusal != 0 {
         return Seen::Refused(refusal);
     }
-    let k = table_searches::key_slot(table, key1, key2);
+    let k = table_keys::key_slot(table, key1, key2);
     if k >= table::slots_of(table) {
         return Seen::NoRow;
     }

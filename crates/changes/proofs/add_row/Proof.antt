@@ -8,7 +8,7 @@ use borrow.Author.Tests.{lt-ltb, le-ltb}
 use Rattle.laws.specs.FirstLaws.{skip, hit, done}
 use Rattle.laws.specs.Bits.{plain}
 use Rattle.table_forms.specs.Formed.{broken}
-use Rattle.table_searches.specs.Keys.{keyed, keyLive}
+use Rattle.table_keys.specs.Keys.{keyed, keyLive}
 use Rattle.changes.specs.ChangeTests.{insertSlot}
 use Rattle.changes.specs.PlacedLaws.{refused, passed}
 use Rattle.changes.specs.Looked.{Looked, looked, looked-live}

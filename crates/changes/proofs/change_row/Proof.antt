@@ -8,8 +8,8 @@ use Rattle.laws.specs.TestLaws.{not-no}
 use Rattle.laws.specs.FirstLaws.{skip, hit}
 use Rattle.laws.specs.Bits.{plain}
 use Rattle.table_forms.specs.Formed.{broken}
-use Rattle.table_searches.specs.Keys.{keyed}
-use Rattle.table_searches.specs.KeyLaws.{live-placed}
+use Rattle.table_keys.specs.Keys.{keyed}
+use Rattle.table_keys.specs.KeyLaws.{live-placed}
 use Rattle.changes.specs.ChangeTests.{notLive}
 use Rattle.changes.specs.PlacedLaws.{refused, row-changed}
 use Rattle.changes.specs.Looked.{Looked, looked, looked-live}

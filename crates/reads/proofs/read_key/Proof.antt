@@ -9,7 +9,7 @@ use Rattle.laws.specs.First.{first}
 use Rattle.table.specs.Slots.{empty}
 use Rattle.table.specs.SlotLaws.{slotAt-past}
 use Rattle.table_forms.specs.FormedLaws.{empty-formed}
-use Rattle.table_searches.specs.Keys.{keySlot, keyed}
+use Rattle.table_keys.specs.Keys.{keySlot, keyed}
 use Rattle.reads.specs.declared.Seen.the-variants.{Refused}
 use Rattle.reads.specs.SessionTests.{sessionTests, sessionRefusal}
 use Rattle.reads.specs.OpenLaws.{Open, opened}

@@ -1,0 +1,3 @@
+pub mod Free
+pub mod FreeSearch
+pub mod FreeLaws

@@ -1,0 +1,3 @@
+pub mod Keys
+pub mod KeySearch
+pub mod KeyLaws
