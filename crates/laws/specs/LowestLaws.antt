@@ -1,7 +1,7 @@
 -- The lowest index below a bound that passes a test, or the bound where none does: that it is so, that nothing else is, that
 -- the test may be replaced by one that agrees below the bound, and one step of a search for it; and that some index passes.
 -- Assumes nothing.
-use mathlib.Core.Path.{_≡_, refl, _∙_}
+use mathlib.Core.Path.{_≡_, refl}
 use mathlib.Core.Bool.{Bool, true, false}
 use borrow.Author.Tests.{ltb-true, lt-ltb}
 use Prim.Native.Nat.{ℕ, zero, suc, _+_, _≤_, _<_, suc-le-suc, zero-le}

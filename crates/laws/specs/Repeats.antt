@@ -1,8 +1,8 @@
 -- Lists without repeats, and counting: two such lists with the same members have one length. Membership, permutation and
 -- `List·Nodup` are the library's; the length is that of the native numbers. Assumes nothing.
 use mathlib.Core.Path.{_≡_, refl, ap, _∙_}
-use mathlib.Core.Logic.{_↔_, ∥∥₁-elim}
-use mathlib.Core.List.{List, [], _∷_, Perm, List·Mem, List·Permᴰ, List·Nodup, perm-ext-iff-of-nodup}
+use mathlib.Core.Logic.{∥∥₁-elim}
+use mathlib.Core.List.{List, [], _∷_, Perm, List·Permᴰ}
 use mathlib.Core.List as L
 use Prim.Native.Nat.{suc}
 use native.Mathlib.Nat.{ℕ-set}

@@ -1,7 +1,7 @@
 -- The laws of a key's slot: it is the lowest that has the key; an absent key shows the empty slot; a live key has a slot.
 -- Assumes nothing.
 use mathlib.Core.Path.{_≡_, refl, ap}
-use mathlib.Core.Bool.{true, false, not, _&&_}
+use mathlib.Core.Bool.{true, false, not}
 use mathlib.Core.List.{List}
 use Prim.Native.Nat.{ℕ, _+_, _≤_, _<_}
 use native.Mathlib.Nat.{lt-of-lt-of-le}
@@ -9,7 +9,6 @@ use lib.Dec.{ltb}
 use borrow.Author.Tests.{ltb-true, ltb-false}
 use lib.IntN.{ℤ}
 use Rattle.laws.specs.TestLaws.{all-at, by-test, clash, not-yes, all-yes, all-no}
-use Rattle.laws.specs.Tests.{all}
 use Rattle.laws.specs.OrderLaws.{eqZ-true, eqZ-same}
 use Rattle.laws.specs.Order.{eqZ}
 use Rattle.laws.specs.Below.{four-more}
