@@ -11,7 +11,7 @@ use native.Mathlib.Nat.{ℕ-set}
 use lib.IntN.{ℤ, _+ℤ_, +ℤ-comm, +ℤ-assoc, ℤ-set}
 use lib.ListN.{length}
 use Rattle.laws.specs.TestLaws.{by-test, clash}
-use Rattle.laws.specs.Repeats.{by-perm, permᴰ-length}
+use Rattle.laws.specs.Permutations.{by-perm, permᴰ-length}
 use Rattle.laws.specs.OrderLaws.{eqZ-true, eqZ-same}
 use Rattle.laws.specs.Order.{eqZ}
 use Rattle.reads.specs.declared.Seen.{Seen}

@@ -13,7 +13,7 @@ use lib.IntN.{ℤ}
 use lib.ListN.{length, length-append}
 use borrow.Author.Tests.{eqb-true, eqb-false, leb-true, le-leb, lt-leb}
 use Rattle.laws.specs.TestLaws.{by-test, clash, not-yes}
-use Rattle.laws.specs.Repeats.{permᴰ-length}
+use Rattle.laws.specs.Permutations.{permᴰ-length}
 use Rattle.calls.specs.Seen.{Seen}
 use Rattle.calls.specs.Seen as seen
 use Rattle.history.specs.Databases.{Database, holds, beside, together, allTogether, rowsOf, upTo}

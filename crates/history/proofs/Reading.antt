@@ -10,7 +10,7 @@ use Prim.Native.Nat.{ℕ, zero, suc, _≤_, _<_}
 use native.Mathlib.Omega.{arith}
 use lib.IntN.{ℤ}
 use lib.ListN.{length}
-use Rattle.laws.specs.Repeats.{perm-length}
+use Rattle.laws.specs.Permutations.{perm-length}
 use Rattle.calls.specs.Terms.{tally, sums}
 use Rattle.history.specs.Databases.{Database, holds, found, IsOf, rolledUp, rowsOf, upTo}
 use Rattle.history.specs.Followed.{Followed, current, databaseAt, running, Committed, Gone}

@@ -10,7 +10,7 @@ use lib.Dec.{eqb}
 use lib.IntN.{ℤ}
 use borrow.Author.Tests.{eqb-true, eqb-false, ne-eqb}
 use Rattle.laws.specs.TestLaws.{by-test}
-use Rattle.laws.specs.Repeats.{by-perm}
+use Rattle.laws.specs.Permutations.{by-perm}
 use Rattle.calls.specs.Seen.{Seen}
 use Rattle.calls.specs.Seen as seen
 use Rattle.history.specs.Databases.{Database, holds, rowsOf, upTo}

@@ -11,7 +11,7 @@ pub mod Bits
 pub mod Sums
 pub mod Stores
 pub mod Cells
-pub mod Repeats
+pub mod Permutations
 pub mod Digits
 pub mod DigitLaws
 pub mod Signs

@@ -1,5 +1,5 @@
--- Lists without repeats, and counting: two such lists with the same members have one length. Membership, permutation and
--- `List·Nodup` are the library's; the length is that of the native numbers. Assumes nothing.
+-- Permutations: what holds step by step holds of a permutation, and a permutation keeps the length. Permutation is the library's;
+-- the length is that of the native numbers. Assumes nothing.
 use mathlib.Core.Path.{_≡_, refl, ap, _∙_}
 use mathlib.Core.Logic.{∥∥₁-elim}
 use mathlib.Core.List.{List, [], _∷_, Perm, List·Permᴰ}
