@@ -10,10 +10,11 @@ use Rattle.table.specs.Slots.{badTable}
 use Rattle.blocks_words.specs.AlteredWord.{OneWordChanged, check-wrong}
 use Rattle.blocks_loads.specs.HeaderFieldLaws.{header-words}
 use Rattle.blocks.specs.HeaderLaws.{header-lawful, header-block}
-use Rattle.blocks.specs.SlotBlocks.{noSuchBlock}
+use Rattle.blocks_saves.specs.SlotBlocks.{noSuchBlock}
 use Rattle.blocks.specs.FrontLaws.{front-passes}
 use Rattle.blocks.specs.EndLaws.{end-15, load-block-end}
-use Rattle.blocks.specs.SlotBlockLaws.{slots-saved, slot-words}
+use Rattle.blocks_saves.specs.SlotsBack.{slot-words}
+use Rattle.blocks.specs.SavedBlockLaws.{slots-saved, number-fits}
 use Rattle.blocks.specs.SaveHeader.{saveHeaderRefusal, saveHeaderBlock}
 use Rattle.blocks.specs.SaveBlock.{saveBlockRefusal, saveBlockBlock}
 use Rattle.blocks.specs.LoadHeader.{loadHeaderRefusal}
@@ -33,4 +34,4 @@ pub block-refused : (t : List ℤ) (v : VersionRecord) (k : ℕ) (changed : List
     → loadBlockRefusal u v′ k′ changed ≡ 15
 block-refused t v k changed allowed one u v′ k′ table versions idle number =
     load-block-end u v′ k′ changed (front-passes u v′ k′ table versions idle number)
-    ∙ end-15 changed _ (one .size) (check-wrong _ changed (slot-words t v k allowed) (rw (slots-saved t v k allowed) at one))
+    ∙ end-15 changed _ (one .size) (check-wrong _ changed (slot-words t k (number-fits t v k allowed)) (rw (slots-saved t v k allowed) at one))

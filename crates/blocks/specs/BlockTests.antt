@@ -8,7 +8,7 @@ use Rattle.refusals.specs.Refusals as refusal
 use Rattle.versions.specs.declared.VersionRecord.{VersionRecord}
 use Rattle.versions.specs.Record.{badRecord}
 use Rattle.table.specs.Slots.{badTable}
-use Rattle.blocks.specs.SlotBlocks.{noSuchBlock, blockBroken}
+use Rattle.blocks_saves.specs.SlotBlocks.{noSuchBlock}
 use Rattle.blocks_words.specs.Words.{notBlock, checkWrong}
 
 -- 1, 2, 7: a save begins with these
@@ -18,10 +18,6 @@ idleTests t v = (badTable t, refusal.badTable) ∷ (badRecord v, refusal.badReco
 -- 1, 2, 7, 5: one of a block of slots, and its load, begin with these
 abbrev pub blockTests : List ℤ → VersionRecord → ℕ → List (Bool × ℕ)
 blockTests t v k = idleTests t v ++ (noSuchBlock t k, refusal.noSuchPlace) ∷ []
-
--- 6: and a save of a block of slots ends with this
-abbrev pub slotTests : List ℤ → VersionRecord → ℕ → List (Bool × ℕ)
-slotTests t v k = (blockBroken t v k, refusal.brokenSlot) ∷ []
 
 -- 14, 15, 16: a load ends with these; the last is whether the words of its block are wrong
 abbrev pub endTests : List ℕ → Bool → List (Bool × ℕ)

@@ -1,32 +1,28 @@
 -- How each contract is shown: by a refusal that is given, or by what is done where nothing is refused. Assumes nothing.
-use mathlib.Core.Path.{_≡_, refl, _∙_}
+use mathlib.Core.Path.{_≡_}
 use mathlib.Core.List.{List}
 use Prim.Native.Nat.{ℕ, suc}
 use lib.IntN.{ℤ, natAbs}
 use Rattle.laws.specs.FirstLaws.{unless-refused, unless-done}
 use Rattle.versions.specs.declared.VersionRecord.{VersionRecord}
 use Rattle.table.specs.Slots.{slots}
-use Rattle.blocks_words.specs.Words.{blockOf, zeroBlock}
 use Rattle.blocks_words.specs.Longs.{blockSlots}
 use Rattle.blocks_loads.specs.HeaderFields.{headerWords}
 use Rattle.blocks_loads.specs.LoadedSlots.{loadedTo}
-use Rattle.blocks.specs.declared.Saved.{Saved}
+use Rattle.blocks_saves.specs.declared.Saved.{Saved}
 use Rattle.blocks.specs.declared.Header.{Header}
 use Rattle.blocks.specs.declared.Loaded.{Loaded}
 use Rattle.blocks.specs.declared.Loaded.the-variants.{Done}
 use Rattle.blocks.specs.declared.Header.the-variants as header
 use Rattle.blocks.specs.declared.Loaded.the-variants as loaded
-use Rattle.blocks.specs.SlotBlocks.{slotBlockWords}
+use Rattle.blocks_saves.specs.SlotBlocks.{slotBlockWords}
 use Rattle.blocks.specs.SaveHeader.{saveHeaderRefusal, saveHeaderBlock, SaveHeaderContract}
 use Rattle.blocks.specs.SaveBlock.{saveBlockRefusal, saveBlockBlock, SaveBlockContract}
 use Rattle.blocks.specs.LoadHeader.{loadHeaderRefusal, headerOf, loadHeaderAnswer, LoadHeaderContract}
 use Rattle.blocks.specs.LoadBlock.{loadBlockRefusal, loadBlockAnswer, loadBlockWords, LoadBlockContract}
-use Rattle.blocks.specs.HandedOut.{Hands, HandsZeros}
+use Rattle.blocks_saves.specs.HandedOut.{Hands}
 
-pub zeros-handed : {r : Saved} {n : ℕ} (words : List ℕ) → HandsZeros r n → (n ≡ 0 → ⊥) → Hands r n words
-zeros-handed words h z = record { refusal = h .refusal; block = h .block ∙ unless-refused (λ m. zeroBlock) (blockOf words) refl z }
-
--- and so a header or a block is saved
+-- ---- a header or a block is saved
 pub header-saved : {t : List ℤ} {v : VersionRecord} {r : Saved} {n : ℕ} → saveHeaderRefusal t v ≡ n → Hands r n (headerWords (slots t) (natAbs (v .current))) → SaveHeaderContract t v r
 unfolding saveHeaderBlock
 header-saved e h = search (rw (← e) at h)

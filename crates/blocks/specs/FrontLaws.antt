@@ -14,7 +14,7 @@ use Rattle.versions.specs.declared.VersionRecord.{VersionRecord}
 use Rattle.versions.specs.Record.{badRecord}
 use Rattle.table.specs.Slots.{badTable}
 use Rattle.blocks_loads.specs.LoadedSlots.{blocks, Within}
-use Rattle.blocks.specs.SlotBlocks.{noSuchBlock}
+use Rattle.blocks_saves.specs.SlotBlocks.{noSuchBlock}
 use Rattle.blocks.specs.BlockTests.{blockTests}
 
 -- ---- no test refuses where each fails

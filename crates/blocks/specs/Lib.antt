@@ -1,4 +1,3 @@
-pub mod SlotBlocks
 pub mod SaveHeader
 pub mod SaveBlock
 pub mod LoadHeader
@@ -6,9 +5,8 @@ pub mod LoadBlock
 pub mod BlockTests
 pub mod FrontLaws
 pub mod EndLaws
-pub mod HandedOut
 pub mod ContractLaws
 pub mod HeaderLaws
-pub mod SlotBlockLaws
 pub mod RoundTrip
 pub mod AlteredBlock
+pub mod SavedBlockLaws

@@ -2,9 +2,9 @@
 -- version, a load of its block writes the table's own slots and no other, and a load of every block of a table, into any
 -- table of its length, gives that table. The calls' tests fail one by one, by the laws of their words and slots.
 -- Assumes nothing.
-use mathlib.Core.Path.{_≡_, refl, sym, _∙_}
+use mathlib.Core.Path.{_≡_, sym, _∙_}
 use mathlib.Core.Bool.{false}
-use mathlib.Core.List.{List, _∷_}
+use mathlib.Core.List.{List}
 use Prim.Native.Nat.{ℕ, zero, suc, _+_, _*_, _-_, _≤_, _<_}
 use native.Mathlib.Omega.{arith}
 use lib.Dec.{ltb}
@@ -13,25 +13,25 @@ use lib.ListN.{length}
 use borrow.Author.Tests.{ltb-false}
 use Rattle.laws.specs.TestLaws.{by-test, by-order}
 use Rattle.laws.specs.FirstLaws.{none}
-use Rattle.laws.specs.LowestLaws.{none-passes}
 use Rattle.versions.specs.declared.VersionRecord.{VersionRecord}
 use Rattle.table.specs.Slots.{badTable, slots, slotAt}
 use Rattle.table.specs.SlotLaws.{slotAt-past, same-length, by-slots}
-use Rattle.table_forms.specs.Formed.{broken}
 use Rattle.table_forms.specs.FormedLaws.{empty-zeros}
-use Rattle.blocks_words.specs.Words.{numberPlace, blockOf}
-use Rattle.blocks_words.specs.WordLaws.{block-length, block-word, check-right, filler-zero}
+use Rattle.blocks_words.specs.Words.{blockOf}
+use Rattle.blocks_words.specs.WordLaws.{block-length, check-right}
 use Rattle.blocks_words.specs.Longs.{blockSlots}
 use Rattle.blocks_loads.specs.HeaderFieldLaws.{header-words, header-right}
-use Rattle.blocks_loads.specs.LoadedSlots.{blocks, firstSlot, slotFillerWords, slotWrong, slotBlockWrong, loadedTo}
+use Rattle.blocks_loads.specs.LoadedSlots.{blocks, firstSlot, slotWrong, slotBlockWrong, loadedTo}
 use Rattle.blocks_loads.specs.AllowedLaws.{slots-allowed}
 use Rattle.blocks_loads.specs.LoadedLaws.{loaded-length, loaded-other, loaded-same}
 use Rattle.blocks.specs.declared.Header.the-variants.{Holds}
 use Rattle.blocks.specs.declared.Loaded.the-variants.{Done}
 use Rattle.blocks.specs.HeaderLaws.{header-lawful, header-block, header-read}
 use Rattle.blocks.specs.EndLaws.{end-0, load-block-end}
-use Rattle.blocks.specs.SlotBlocks.{blockBroken, slotsFrom, slotBlockWords}
-use Rattle.blocks.specs.SlotBlockLaws.{Fitting, front, table-sound, slots-saved, slot-words, slot-back}
+use Rattle.blocks_saves.specs.SlotBlocks.{slotBlockWords}
+use Rattle.blocks_saves.specs.SlotBlockLaws.{block-formed}
+use Rattle.blocks_saves.specs.SlotsBack.{Fitting, slot-words, number-back, filler-back, slot-back}
+use Rattle.blocks.specs.SavedBlockLaws.{front, table-sound, slots-saved, number-fits}
 use Rattle.blocks.specs.SaveHeader.{saveHeaderRefusal, saveHeaderBlock}
 use Rattle.blocks.specs.SaveBlock.{saveBlockRefusal, saveBlockBlock}
 use Rattle.blocks.specs.LoadHeader.{loadHeaderRefusal, loadHeaderAnswer}
@@ -66,24 +66,21 @@ beyond t u same sound j h = slotAt-past u j (same-length t u same ∙ sound) (rw
 module _ (t u : List ℤ) (v : VersionRecord) (k : ℕ) (fitting : Fitting t) (same : length u ≡ length t) (allowed : saveBlockRefusal t v k ≡ 0) where
   -- each slot of the block is one that a load takes: well formed in the table, and zero beyond it
   slot-right : (j : ℕ) → j < blockSlots → slotWrong u v k (blockOf (slotBlockWords t k)) j ≡ false
-  unfolding saveBlockRefusal blockBroken
+  unfolding saveBlockRefusal
   slot-right j a =
       by-test (ltb (firstSlot k + j) (slots u))
-      (λ y. rw (y, slot-back t v k allowed fitting j a) (none-passes (λ i. broken (slotAt t (firstSlot k + i)) v) blockSlots (none _ tt allowed 6) j a))
+      (λ y. rw (y, slot-back t k (number-fits t v k allowed) fitting j a) (block-formed t v k (none _ tt allowed 6) j a))
       (λ m. let past : slots t ≤ firstSlot k + j = omega (arith, ltb-false (firstSlot k + j) (slots u) m) in
-      rw (m, slot-back t v k allowed fitting j a, slotAt-past t (firstSlot k + j) (table-sound t v k allowed) past, empty-zeros))
+      rw (m, slot-back t k (number-fits t v k allowed) fitting j a, slotAt-past t (firstSlot k + j) (table-sound t v k allowed) past, empty-zeros))
 
   -- so its words are not wrong
   slots-right : slotBlockWrong u v k (blockOf (slotBlockWords t k)) ≡ false
-  unfolding slotBlockWords
-  slots-right =
-      let made = slot-words t v k allowed in
-      slots-allowed u v k _ (block-word _ made numberPlace (omega arith)) (filler-zero _ made (k ∷ slotsFrom t (firstSlot k) blockSlots) slotFillerWords refl) slot-right
+  slots-right = let fits = number-fits t v k allowed in slots-allowed u v k _ (number-back t k fits) (filler-back t k fits) slot-right
 
   -- a load of it is not refused
   pub block-loads : loadBlockRefusal u v k (saveBlockBlock t v k) ≡ 0
   block-loads =
-      let made = slot-words t v k allowed in
+      let made = slot-words t k (number-fits t v k allowed) in
       rw (slots-saved t v k allowed)
       (load-block-end u v k _ (rw (same-length t u same, same) (front t v k allowed)) ∙ end-0 _ _ (block-length _ made) (check-right _ made) slots-right)
 
@@ -96,7 +93,7 @@ module _ (t u : List ℤ) (v : VersionRecord) (k : ℕ) (fitting : Fitting t) (s
   slot-same i a =
       let block = blockOf (slotBlockWords t k) in
       by-order (firstSlot k + i) (slots u)
-      (λ l. loaded-same u k block (same-length t u same ∙ table-sound t v k allowed) blockSlots i a l ∙ slot-back t v k allowed fitting i a)
+      (λ l. loaded-same u k block (same-length t u same ∙ table-sound t v k allowed) blockSlots i a l ∙ slot-back t k (number-fits t v k allowed) fitting i a)
       (λ g. beyond t _ (loaded-length u k block blockSlots ∙ same) (table-sound t v k allowed) (firstSlot k + i) (omega arith))
 
   -- it writes the slots of the block as they were saved, and no other

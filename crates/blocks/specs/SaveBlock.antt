@@ -8,9 +8,9 @@ use lib.IntN.{ℤ}
 use Rattle.laws.specs.First.{first, unless}
 use Rattle.versions.specs.declared.VersionRecord.{VersionRecord}
 use Rattle.blocks_words.specs.Words.{blockOf, zeroBlock}
-use Rattle.blocks.specs.declared.Saved.{Saved}
-use Rattle.blocks.specs.SlotBlocks.{slotBlockWords}
-use Rattle.blocks.specs.BlockTests.{blockTests, slotTests}
+use Rattle.blocks_saves.specs.declared.Saved.{Saved}
+use Rattle.blocks_saves.specs.SlotBlocks.{slotBlockWords, slotTests}
+use Rattle.blocks.specs.BlockTests.{blockTests}
 
 -- Save block: 1, 2, 7, 5, 6 (its slots)
 abbrev pub saveBlockTests : List ℤ → VersionRecord → ℕ → List (Bool × ℕ)

@@ -10,7 +10,7 @@ use Rattle.versions.specs.declared.VersionRecord.{VersionRecord}
 use Rattle.table.specs.Slots.{slots}
 use Rattle.blocks_words.specs.Words.{blockOf, zeroBlock}
 use Rattle.blocks_loads.specs.HeaderFields.{headerWords}
-use Rattle.blocks.specs.declared.Saved.{Saved}
+use Rattle.blocks_saves.specs.declared.Saved.{Saved}
 use Rattle.blocks.specs.BlockTests.{idleTests}
 
 -- Save header: 1, 2, 7

@@ -1,26 +1,17 @@
-// Blocks of 512 bytes: what saving and loading answer, and the four calls. A save makes a block in one pass, each word stored
-// and added to the check; a load tests everything before it writes.
+// Blocks of 512 bytes: the four calls, and what a load answers. A save makes its block in one pass over the slots; a load tests
+// everything before it writes.
 ghost use mathlib.Core.Path.{_≡_};
 ghost use Rattle.laws.specs.First.{first};
 ghost use Rattle.blocks.specs.BlockTests.{idleTests, blockTests};
-ghost use Rattle.blocks.specs.HandedOut.{HandsZeros};
 ghost use Rattle.blocks.specs.SaveHeader.{SaveHeaderContract};
 ghost use Rattle.blocks.specs.SaveBlock.{SaveBlockContract};
 ghost use Rattle.blocks.specs.LoadHeader.{LoadHeaderContract};
 ghost use Rattle.blocks.specs.LoadBlock.{LoadBlockContract};
+use blocks_saves::Saved;
 use versions::VersionRecord;
-
-mod header_blocks;
-mod slot_blocks;
 
 // The bytes of a block.
 pub const BLOCK_BYTES: usize = 512;
-
-// What a save hands out: 0 or the refusal's number, and the block beside it, zeros where it is refused.
-pub struct Saved {
-    pub refusal: u32,
-    pub block: [u8; 512],
-}
 
 // What load header answers: slots and current, or a refusal.
 pub enum Header {
@@ -58,20 +49,10 @@ fn block_refusal(table: &[i64], versions: VersionRecord, number: usize) -> u32
     if refusal != 0 {
         return refusal;
     }
-    if slot_blocks::no_such_block(table, number) {
+    if blocks_saves::slot_blocks::no_such_block(table, number) {
         return refusals::NO_SUCH_PLACE;
     }
     0
-}
-
-// A refused save.
-fn refused(number: u32) -> Saved
-    ensures { λ r. ⌜ HandsZeros r number ⌝ }
-{
-    Saved {
-        refusal: number,
-        block: [0u8; 512],
-    }
 }
 
 // Save header: 1, 2, 7.
@@ -80,11 +61,11 @@ pub fn save_header(table: &[i64], versions: VersionRecord) -> Saved
 {
     let refusal = idle_refusal(table, versions);
     if refusal != 0 {
-        return refused(refusal);
+        return blocks_saves::refused(refusal);
     }
     let count = table::slots_of(table);
     let current = versions.current;
-    let block = header_blocks::header_block(count as u32, current as u32);
+    let block = blocks_saves::header_blocks::header_block(count as u32, current as u32);
     Saved {
         refusal: 0,
         block: block,
@@ -97,9 +78,9 @@ pub fn save_block(table: &[i64], versions: VersionRecord, number: usize) -> Save
 {
     let refusal = block_refusal(table, versions, number);
     if refusal != 0 {
-        return refused(refusal);
+        return blocks_saves::refused(refusal);
     }
-    slot_blocks::save_slots(table, versions, number)
+    blocks_saves::slot_blocks::save_slots(table, versions, number)
 }
 
 // Load header: 14, 15, 16. It answers slots and current.

@@ -1,5 +1,5 @@
 // The figures of RULES.md on blocks: each save's refusal and the check of its block, a line each.
-use blocks::Saved;
+use blocks_saves::Saved;
 ghost use Prim.Native.Nat.{_<_};
 use libc::STDOUT_FILENO;
 use versions::VersionRecord;

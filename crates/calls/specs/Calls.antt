@@ -2,10 +2,10 @@
 use mathlib.Core.List.{List}
 use Prim.Native.Nat.{ℕ}
 use lib.IntN.{ℤ}
-use Rattle.versions.specs.declared.Numbered.{Numbered}
+use Rattle.versions_runs.specs.declared.Numbered.{Numbered}
 use Rattle.reads.specs.declared.Seen.{Seen}
-use Rattle.reads.specs.declared.Rolled.{Rolled}
-use Rattle.changes.specs.declared.Placed.{Placed}
+use Rattle.reads_roll_up.specs.declared.Rolled.{Rolled}
+use Rattle.changes_rows.specs.declared.Placed.{Placed}
 use Rattle.blocks.specs.declared.Header.{Header}
 use Rattle.blocks.specs.declared.Loaded.{Loaded}
 

@@ -2,14 +2,14 @@
 -- order. A refusal is its number, and zeros elsewhere. Assumes nothing.
 use mathlib.Core.List.{List, [], _∷_}
 use lib.IntN.{ℤ, pos}
-use Rattle.versions.specs.declared.Numbered.{Numbered}
-use Rattle.versions.specs.declared.Numbered.the-variants as numbered
+use Rattle.versions_runs.specs.declared.Numbered.{Numbered}
+use Rattle.versions_runs.specs.declared.Numbered.the-variants as numbered
 use Rattle.reads.specs.declared.Seen.{Seen}
 use Rattle.reads.specs.declared.Seen.the-variants as seen
-use Rattle.reads.specs.declared.Rolled.{Rolled}
-use Rattle.reads.specs.declared.Rolled.the-variants as rolled
-use Rattle.changes.specs.declared.Placed.{Placed}
-use Rattle.changes.specs.declared.Placed.the-variants as placed
+use Rattle.reads_roll_up.specs.declared.Rolled.{Rolled}
+use Rattle.reads_roll_up.specs.declared.Rolled.the-variants as rolled
+use Rattle.changes_rows.specs.declared.Placed.{Placed}
+use Rattle.changes_rows.specs.declared.Placed.the-variants as placed
 use Rattle.blocks.specs.declared.Header.{Header}
 use Rattle.blocks.specs.declared.Header.the-variants as header
 use Rattle.blocks.specs.declared.Loaded.{Loaded}

@@ -3,10 +3,10 @@ use mathlib.Core.List.{List}
 use Prim.Native.Nat.{ℕ}
 use lib.IntN.{ℤ}
 use Rattle.versions.specs.declared.VersionRecord.{VersionRecord}
-use Rattle.versions.specs.Runs.{openAnswer, beginAnswer, beginRecord, commitAnswer, commitRecord}
+use Rattle.versions_runs.specs.Runs.{openAnswer, beginAnswer, beginRecord, commitAnswer, commitRecord}
 use Rattle.reads.specs.ReadSlot.{readSlotAnswer}
 use Rattle.reads.specs.ReadKey.{readKeyAnswer}
-use Rattle.reads.specs.RollUp.{rollUpAnswer}
+use Rattle.reads_roll_up.specs.RollUp.{rollUpAnswer}
 use Rattle.changes.specs.Insert.{insertAnswer, insertWords}
 use Rattle.changes.specs.Update.{updateAnswer, updateWords}
 use Rattle.changes.specs.Delete.{deleteAnswer, deleteWords}

@@ -4,4 +4,4 @@ pub use Rattle.laws.specs.Order.{eqZ}
 pub use Rattle.versions.specs.Record.{largestVersion, freshRecord}
 pub use Rattle.table.specs.Slots.{mostSlots, freshTable}
 pub use Rattle.table_forms.specs.Totals.{unlawful}
-pub use Rattle.reads.specs.RollUp.{tally, sums}
+pub use Rattle.reads_roll_up.specs.RollUp.{tally, sums}

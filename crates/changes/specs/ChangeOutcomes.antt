@@ -9,10 +9,10 @@ use Rattle.laws.specs.TestLaws.{not-no}
 use Rattle.laws.specs.FirstLaws.{none}
 use Rattle.versions.specs.declared.VersionRecord.{VersionRecord}
 use Rattle.table_keys.specs.Keys.{keySlot}
-use Rattle.changes.specs.declared.Placed.{Placed}
-use Rattle.changes.specs.declared.Placed.the-variants.{InSlot, Refused}
+use Rattle.changes_rows.specs.declared.Placed.{Placed}
+use Rattle.changes_rows.specs.declared.Placed.the-variants.{InSlot, Refused}
 use Rattle.changes.specs.Insert.{insertRefusal, insertAnswer, insertWords}
-use Rattle.changes.specs.ChangeTests.{insertSlot}
+use Rattle.changes_rows.specs.RowTests.{insertSlot}
 use Rattle.changes.specs.Update.{updateRefusal, updateAnswer, updateWords}
 use Rattle.changes.specs.Delete.{deleteRefusal, deleteAnswer, deleteWords}
 

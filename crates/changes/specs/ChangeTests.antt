@@ -1,6 +1,6 @@
--- The tests of changes, in the parts that a function of the code answers for: a list of tests is made of these, and each test
--- stands once. Assumes nothing.
-use mathlib.Core.Bool.{Bool, cond, not}
+-- The tests that a change begins with, before it looks up its key: a list of tests is made of these and of those of its key's row,
+-- and each test stands once. Assumes nothing.
+use mathlib.Core.Bool.{Bool}
 use mathlib.Core.List.{List, [], _∷_, _++_}
 use Prim.Native.Nat.{ℕ}
 use lib.IntN.{ℤ}
@@ -8,12 +8,8 @@ use Rattle.refusals.specs.Refusals as refusal
 use Rattle.laws.specs.First.{first}
 use Rattle.versions.specs.declared.VersionRecord.{VersionRecord}
 use Rattle.versions.specs.Record.{badRecord, idle}
-use Rattle.table.specs.Slots.{badTable, slots}
-use lib.Dec.{ltb}
-use Rattle.table_keys.specs.Keys.{keySlot, keyLive, keyed}
-use Rattle.table_free.specs.Free.{freeSlot}
+use Rattle.table.specs.Slots.{badTable}
 use Rattle.table_forms.specs.Totals.{unlawful}
-use Rattle.table_forms.specs.Formed.{broken}
 
 -- 1, 2, 8: every change begins with these
 abbrev pub runningTests : List ℤ → VersionRecord → List (Bool × ℕ)
@@ -26,30 +22,9 @@ runningTests t v =
 unfoldable pub runningRefusal : List ℤ → VersionRecord → ℕ
 runningRefusal t v = first (runningTests t v)
 
--- the slot that is written: the key's; where the key has none, the lowest that is all zeros, or is well formed and deleted
--- by an older run
-abbrev pub insertSlot : List ℤ → VersionRecord → ℤ → ℤ → ℕ
-insertSlot t v key1 key2 = cond (ltb (keySlot t key1 key2) (slots t)) (keySlot t key1 key2) (freeSlot t v)
-
--- 12: no slot to take
-abbrev pub noSlot : List ℤ → VersionRecord → ℤ → ℤ → Bool
-noSlot t v key1 key2 = not (ltb (insertSlot t v key1 key2) (slots t))
-
--- 11: key not live (deleted or absent)
-abbrev pub notLive : List ℤ → ℤ → ℤ → Bool
-notLive t key1 key2 = not (keyLive t key1 key2)
-
 -- 1, 2, 8, 13: a change with totals begins with these
 abbrev pub givenTests : List ℤ → VersionRecord → ℤ → ℤ → List (Bool × ℕ)
 givenTests t v total1 total2 = runningTests t v ++ (unlawful total1 total2, refusal.badTotal) ∷ []
 
 abbrev pub givenRefusal : List ℤ → VersionRecord → ℤ → ℤ → ℕ
 givenRefusal t v total1 total2 = first (givenTests t v total1 total2)
-
--- 6, 10, 12: an insert ends with these
-abbrev pub addTests : List ℤ → VersionRecord → ℤ → ℤ → List (Bool × ℕ)
-addTests t v key1 key2 = (broken (keyed t key1 key2) v, refusal.brokenSlot) ∷ (keyLive t key1 key2, refusal.keyLive) ∷ (noSlot t v key1 key2, refusal.tableFull) ∷ []
-
--- 6, 11: an update and a delete end with these
-abbrev pub changeTests : List ℤ → VersionRecord → ℤ → ℤ → List (Bool × ℕ)
-changeTests t v key1 key2 = (broken (keyed t key1 key2) v, refusal.brokenSlot) ∷ (notLive t key1 key2, refusal.keyNotLive) ∷ []

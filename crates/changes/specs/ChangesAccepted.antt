@@ -30,13 +30,13 @@ use Rattle.reads.specs.declared.Seen.{Seen}
 use Rattle.reads.specs.declared.Seen.the-variants.{Row, NoRow}
 use Rattle.reads.specs.Table1.{shown}
 use Rattle.reads.specs.Table1Laws.{shown-deleted, shown-empty}
-use Rattle.changes.specs.declared.Placed.{Placed}
+use Rattle.changes_rows.specs.declared.Placed.{Placed}
 use Rattle.changes_cells.specs.Tables.{inserted, updated, deleted}
 use Rattle.changes_cells.specs.TableLaws.{inserted-new, inserted-older, inserted-same, updated-older, updated-same, deleted-older, deleted-insert, deleted-update}
 use Rattle.changes.specs.Effects.{Effect, run-within, save-effect, correct-effect, remove-effect, erase-effect, mark-effect, restore-effect, insert-effect}
 use Rattle.changes.specs.Whole.{Whole, KeysApart, Wrote, only-slot}
 use Rattle.changes.specs.Insert.{insertRefusal, insertAnswer, insertWords}
-use Rattle.changes.specs.ChangeTests.{insertSlot}
+use Rattle.changes_rows.specs.RowTests.{insertSlot}
 use Rattle.changes.specs.Update.{updateRefusal, updateAnswer, updateWords}
 use Rattle.changes.specs.Delete.{deleteRefusal, deleteAnswer, deleteWords}
 use Rattle.changes.specs.ChangeOutcomes.{ChangeRefuses, ChangeAccepts, insert-refuses, insert-accepts, update-refuses, update-accepts, delete-refuses, delete-accepts}

@@ -30,7 +30,8 @@ use Rattle.reads.specs.Table1.{shown, currentRow, oldRow}
 use Rattle.reads.specs.Table1Laws.{shown-current, shown-removed}
 use Rattle.changes.specs.Effects.{run-within}
 use Rattle.changes.specs.Whole.{Whole}
-use Rattle.changes.specs.ChangeTests.{runningTests, insertSlot, noSlot, notLive}
+use Rattle.changes.specs.ChangeTests.{runningTests}
+use Rattle.changes_rows.specs.RowTests.{insertSlot, noSlot, notLive}
 use Rattle.changes.specs.Insert.{insertRefusal}
 use Rattle.changes.specs.Update.{updateRefusal}
 use Rattle.changes.specs.Delete.{deleteRefusal}

@@ -10,10 +10,11 @@ use Rattle.versions.specs.declared.VersionRecord.{VersionRecord}
 use Rattle.versions.specs.Record.{runNumber}
 use Rattle.table.specs.Slots.{putSlot}
 use Rattle.table_keys.specs.Keys.{keyed}
-use Rattle.changes.specs.declared.Placed.{Placed}
-use Rattle.changes.specs.declared.Placed.the-variants.{InSlot, Refused}
+use Rattle.changes_rows.specs.declared.Placed.{Placed}
+use Rattle.changes_rows.specs.declared.Placed.the-variants.{InSlot, Refused}
 use Rattle.changes_cells.specs.Tables.{inserted}
-use Rattle.changes.specs.ChangeTests.{insertSlot, givenTests, addTests}
+use Rattle.changes.specs.ChangeTests.{givenTests}
+use Rattle.changes_rows.specs.RowTests.{insertSlot, addTests}
 
 -- Insert: 1, 2, 8, 13, 6, 10, 12
 abbrev pub insertTests : List ℤ → VersionRecord → ℤ → ℤ → ℤ → ℤ → List (Bool × ℕ)

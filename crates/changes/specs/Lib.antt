@@ -3,13 +3,10 @@ pub mod Whole
 pub mod ChangesAccepted
 pub mod ChangesRefused
 pub mod ChangeOutcomes
-pub mod PlacedNumbers
 pub mod Places
 pub mod ChangeTests
 pub mod RunningLaws
 pub mod Insert
 pub mod Update
 pub mod Delete
-pub mod ChangeLeaves
 pub mod PlacedLaws
-pub mod Looked

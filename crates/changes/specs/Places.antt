@@ -13,13 +13,13 @@ use Rattle.versions.specs.declared.VersionRecord.{VersionRecord}
 use Rattle.table.specs.Slots.{mostSlots, badTable, slots}
 use Rattle.table.specs.SlotLaws.{lengths}
 use Rattle.table_keys.specs.KeyLaws.{live-placed}
-use Rattle.changes.specs.declared.Placed.{Placed}
-use Rattle.changes.specs.declared.Placed.the-variants.{InSlot}
+use Rattle.changes_rows.specs.declared.Placed.{Placed}
+use Rattle.changes_rows.specs.declared.Placed.the-variants.{InSlot}
 use Rattle.changes.specs.Insert.{insertRefusal, insertAnswer}
 use Rattle.changes.specs.Update.{updateRefusal, updateAnswer}
 use Rattle.changes.specs.Delete.{deleteRefusal, deleteAnswer}
 use Rattle.changes.specs.ChangeOutcomes.{ChangeRefuses, ChangeAccepts, insert-refuses, insert-accepts, update-refuses, update-accepts, delete-refuses, delete-accepts}
-use Rattle.changes.specs.PlacedNumbers.{Numbers, slot, refusal}
+use Rattle.changes_rows.specs.PlacedNumbers.{Numbers, slot, refusal}
 
 pub slot-low : {k : ℕ} → Numbers (InSlot k) → k < mostSlots
 slot-low (slot l) = l

@@ -10,10 +10,11 @@ use Rattle.versions.specs.declared.VersionRecord.{VersionRecord}
 use Rattle.versions.specs.Record.{runNumber}
 use Rattle.table.specs.Slots.{putSlot}
 use Rattle.table_keys.specs.Keys.{keySlot, keyed}
-use Rattle.changes.specs.declared.Placed.{Placed}
-use Rattle.changes.specs.declared.Placed.the-variants.{InSlot, Refused}
+use Rattle.changes_rows.specs.declared.Placed.{Placed}
+use Rattle.changes_rows.specs.declared.Placed.the-variants.{InSlot, Refused}
 use Rattle.changes_cells.specs.Tables.{updated}
-use Rattle.changes.specs.ChangeTests.{givenTests, changeTests}
+use Rattle.changes.specs.ChangeTests.{givenTests}
+use Rattle.changes_rows.specs.RowTests.{changeTests}
 
 -- Update: 1, 2, 8, 13, 6, 11
 abbrev pub updateTests : List ℤ → VersionRecord → ℤ → ℤ → ℤ → ℤ → List (Bool × ℕ)

@@ -11,7 +11,7 @@ use Rattle.laws.specs.First.{first}
 use Rattle.laws.specs.Lowest.{lowest, some}
 use Rattle.versions.specs.Record.{badRecord}
 use Rattle.versions.specs.Sessions.{unborn, expired}
-use Rattle.versions.specs.Runs.{beginRefusal, beginAnswer, beginRecord, commitRefusal, commitAnswer, commitRecord}
+use Rattle.versions_runs.specs.Runs.{beginRefusal, beginAnswer, beginRecord, commitRefusal, commitAnswer, commitRecord}
 use Rattle.table.specs.Slots.{badTable, slotAt, putSlot}
 use Rattle.table_forms.specs.Operations.{column, live}
 use Rattle.table_forms.specs.Totals.{lawful, unlawful}
@@ -21,7 +21,7 @@ use Rattle.table_free.specs.Free.{longDeleted, free, freeSlot}
 use Rattle.reads.specs.Table1.{shown}
 use Rattle.reads.specs.ReadSlot.{readSlotRefusal, readSlotAnswer}
 use Rattle.reads.specs.ReadKey.{readKeyRefusal, readKeyAnswer}
-use Rattle.reads.specs.RollUp.{rollUpRefusal, rollUpAnswer}
+use Rattle.reads_roll_up.specs.RollUp.{rollUpRefusal, rollUpAnswer}
 use Rattle.changes_cells.specs.Tables.{changed}
 use Rattle.changes.specs.Insert.{insertRefusal, insertAnswer, insertWords}
 use Rattle.changes.specs.Update.{updateRefusal, updateAnswer, updateWords}

@@ -13,7 +13,7 @@ use Rattle.laws.specs.First.{first}
 use Rattle.laws.specs.Lowest.{lowest, some}
 use Rattle.versions.specs.Record.{badRecord}
 use Rattle.versions.specs.Sessions.{unborn, expired}
-use Rattle.versions.specs.Runs.{beginRefusal, beginAnswer, beginRecord, commitRefusal, commitAnswer, commitRecord}
+use Rattle.versions_runs.specs.Runs.{beginRefusal, beginAnswer, beginRecord, commitRefusal, commitAnswer, commitRecord}
 use Rattle.table.specs.Slots.{badTable, slotAt, putSlot}
 use Rattle.table_forms.specs.Operations.{column, live}
 use Rattle.table_forms.specs.Totals.{lawful, unlawful}
@@ -21,12 +21,12 @@ use Rattle.table_forms.specs.Formed.{allZeros, totalsLawful, usedWell, wellForm
 use Rattle.table_keys.specs.Keys.{hasKey, keySlot}
 use Rattle.table_free.specs.Free.{longDeleted, free, freeSlot}
 use Rattle.reads.specs.declared.Seen.the-variants as seen
-use Rattle.reads.specs.declared.Rolled.the-variants as rolled
+use Rattle.reads_roll_up.specs.declared.Rolled.the-variants as rolled
 use Rattle.reads.specs.Table1.{shown}
 use Rattle.reads.specs.ReadSlot.{readSlotRefusal, readSlotAnswer}
 use Rattle.reads.specs.ReadKey.{readKeyRefusal, readKeyAnswer}
-use Rattle.reads.specs.RollUp.{rollUpRefusal, rollUpAnswer}
-use Rattle.changes.specs.declared.Placed.the-variants as placed
+use Rattle.reads_roll_up.specs.RollUp.{rollUpRefusal, rollUpAnswer}
+use Rattle.changes_rows.specs.declared.Placed.the-variants as placed
 use Rattle.changes_cells.specs.Tables.{changed}
 use Rattle.changes.specs.Insert.{insertRefusal, insertAnswer, insertWords}
 use Rattle.changes.specs.Update.{updateRefusal, updateAnswer, updateWords}

@@ -30,7 +30,7 @@ use Rattle.changes.specs.ChangesAccepted.{free-unseen}
 use Rattle.changes.specs.ChangesRefused as refused
 use Rattle.changes.specs.ChangesRefused.{busy-seen, insert-refused, update-refused, delete-refused, insert-idle, update-idle, delete-idle}
 use Rattle.changes.specs.ChangeOutcomes.{insert-refuses, insert-accepts, update-refuses, update-accepts, delete-refuses, delete-accepts}
-use Rattle.changes.specs.ChangeTests.{noSlot}
+use Rattle.changes_rows.specs.RowTests.{noSlot}
 use Rattle.calls.specs.Calls as answer
 use Rattle.history.specs.Followed.{current}
 use Rattle.history.specs.Kinds.{accepted}

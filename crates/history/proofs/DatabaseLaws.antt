@@ -16,8 +16,8 @@ use Rattle.laws.specs.OrderLaws.{eqZ-true, eqZ-same}
 use Rattle.laws.specs.Order.{eqZ}
 use Rattle.reads.specs.declared.Seen.{Seen}
 use Rattle.reads.specs.declared.Seen.the-variants as seen
-use Rattle.reads.specs.declared.Rolled.the-variants.{Sums}
-use Rattle.reads.specs.RollUp.{Tally, tally, counted, sums}
+use Rattle.reads_roll_up.specs.declared.Rolled.the-variants.{Sums}
+use Rattle.reads_roll_up.specs.RollUp.{Tally, tally, counted, sums}
 use Rattle.history.specs.Databases.{Row, Database, isKey, holds, NoRepeat, without, found, asSeen, region, sumOf, rolledUp, beside}
 
 -- ---- tests

@@ -9,8 +9,9 @@ use Rattle.table.specs.Slots.{badTable, slotAt}
 use Rattle.table_forms.specs.FormedLaws.{all-formed}
 use Rattle.table_keys.specs.Keys.{keySlot}
 use Rattle.reads.specs.Table1.{shown}
-use Rattle.reads.specs.RollUp
-use Rattle.reads.specs.ReadOutcomes.{key-expired, key-shown, roll-up-expired, roll-up-summed, slot-expired, slot-past, slot-shown}
+use Rattle.reads_roll_up.specs.RollUp
+use Rattle.reads_roll_up.specs.RollUpOutcomes.{roll-up-expired, roll-up-summed}
+use Rattle.reads.specs.ReadOutcomes.{key-expired, key-shown, slot-expired, slot-past, slot-shown}
 use Rattle.calls.specs.Calls as answer
 use Rattle.history.specs.Databases.{upTo}
 use Rattle.history.proofs.Recorded.{Recorded, is-born, is-gone, is-kept}

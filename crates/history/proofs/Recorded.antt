@@ -13,8 +13,8 @@ use Rattle.versions.specs.declared.VersionRecord.{VersionRecord}
 use Rattle.versions.specs.Record.{badRecord, runNumber}
 use Rattle.versions.specs.Sessions.{unborn, expired}
 use Rattle.versions.specs.SessionLaws.{born, expires}
-use Rattle.versions.specs.Runs.{beginRefusal, begunFrom, commitRefusal, committedFrom}
-use Rattle.versions.specs.RunLaws.{can-commit, begun-sound, committed-sound}
+use Rattle.versions_runs.specs.Runs.{beginRefusal, begunFrom, commitRefusal, committedFrom}
+use Rattle.versions_runs.specs.RunLaws.{can-commit, begun-sound, committed-sound}
 use Rattle.history.specs.Databases.{Database, Change}
 use Rattle.history.specs.Followed.{Followed, starting, current, Committed, Gone, withChange, runBegun, runCommitted}
 use Rattle.history.proofs.Growth.{counted}

@@ -9,7 +9,7 @@ use Rattle.laws.specs.FirstLaws.{skip, hit, done}
 use Rattle.laws.specs.Order.{eqZ}
 use Rattle.versions.specs.Record.{largestVersion}
 use Rattle.versions.specs.RecordLaws.{sound}
-use Rattle.versions.specs.RunLaws.{open-answers, begin-left, begin-accepts, begin-refuses, commit-left, commit-accepts, commit-refuses}
+use Rattle.versions_runs.specs.RunLaws.{open-answers, begin-left, begin-accepts, begin-refuses, commit-left, commit-accepts, commit-refuses}
 use Rattle.calls.specs.Numbered.{Version}
 use Rattle.calls.specs.Calls as answer
 use Rattle.history.specs.Followed.{current}

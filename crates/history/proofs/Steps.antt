@@ -9,11 +9,11 @@ use lib.Dec.{eqb·suc-zero}
 use lib.IntN.{ℤ}
 use Rattle.laws.specs.TestLaws.{clash}
 use Rattle.versions.specs.declared.VersionRecord.{VersionRecord}
-use Rattle.versions.specs.declared.Numbered.{Numbered}
-use Rattle.versions.specs.RunLaws.{TurnRefuses, TurnAccepts, begin-refuses, begin-accepts, commit-refuses, commit-accepts}
-use Rattle.versions.specs.Runs.{beginRefusal, commitRefusal}
+use Rattle.versions_runs.specs.declared.Numbered.{Numbered}
+use Rattle.versions_runs.specs.RunLaws.{TurnRefuses, TurnAccepts, begin-refuses, begin-accepts, commit-refuses, commit-accepts}
+use Rattle.versions_runs.specs.Runs.{beginRefusal, commitRefusal}
 use Rattle.reads.specs.declared.Seen.{Seen}
-use Rattle.changes.specs.declared.Placed.{Placed}
+use Rattle.changes_rows.specs.declared.Placed.{Placed}
 use Rattle.changes.specs.ChangesAccepted.{Came, refuses, accepts, insert-came, update-came, delete-came}
 use Rattle.blocks.specs.ContractLaws as load
 use Rattle.blocks.specs.LoadBlock.{loadBlockRefusal}

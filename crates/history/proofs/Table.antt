@@ -17,8 +17,8 @@ use Rattle.laws.specs.OrderLaws.{leZ-refl, leZ-trans, from-to}
 use Rattle.versions.specs.declared.VersionRecord.{VersionRecord}
 use Rattle.versions.specs.Record.{freshRecord, runNumber, lastRun}
 use Rattle.versions.specs.RecordLaws.{fresh-sound}
-use Rattle.versions.specs.Runs.{beginRefusal, begunFrom, commitRefusal, committedFrom}
-use Rattle.versions.specs.RunLaws.{can-begin, can-commit}
+use Rattle.versions_runs.specs.Runs.{beginRefusal, begunFrom, commitRefusal, committedFrom}
+use Rattle.versions_runs.specs.RunLaws.{can-begin, can-commit}
 use Rattle.table.specs.Slots.{slots, slotAt, freshTable}
 use Rattle.table.specs.SlotLaws.{put-length, fresh-slots, fresh-shape, fresh-slot}
 use Rattle.table_forms.specs.FormedLaws.{formed-cases, formed-later, empty-formed}

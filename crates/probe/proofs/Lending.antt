@@ -44,16 +44,16 @@ use denote.Triple.Table.{entered, cited}
 use denote.Triple.Walked.{says, Stays, stay-none, walkOf, AllGo, goes-none, Walks, ends-at, walked, walk-meets}
 use denote.Exit.{yes}
 use Rattle.versions.specs.declared.VersionRecord.{VersionRecord}
-use Rattle.versions.specs.declared.Numbered.{Numbered}
-use Rattle.versions.specs.declared.Turned.{Turned}
-use Rattle.versions.specs.Runs.{leaving}
+use Rattle.versions_runs.specs.declared.Numbered.{Numbered}
+use Rattle.versions_runs.specs.declared.Turned.{Turned}
+use Rattle.versions_runs.specs.Runs.{leaving}
 use Rattle.versions.proofs.VersionRecord as versions
 use Rattle.versions.proofs.VersionRecord.Laws as version-laws
-use Rattle.versions.proofs.Numbered as numbered
-use Rattle.versions.proofs.Numbered.Laws as numbered-laws
-use Rattle.versions.proofs.Turned as turned
-use Rattle.versions.proofs.Turned.Laws as turned-laws
-use Rattle.versions.proofs.begin as begin
+use Rattle.versions_runs.proofs.Numbered as numbered
+use Rattle.versions_runs.proofs.Numbered.Laws as numbered-laws
+use Rattle.versions_runs.proofs.Turned as turned
+use Rattle.versions_runs.proofs.Turned.Laws as turned-laws
+use Rattle.versions_runs.proofs.begin as begin
 use Rattle.probe.proofs.lent.begin_by_value as begun
 
 -- ---- the code: local 0 is what is returned, 1 the record passed, 2 the one that is lent, 3 the answer, 4 the reference, 5 the record left

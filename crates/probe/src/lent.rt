@@ -1,6 +1,6 @@
 // Begin and commit of a record that one keeps: it stands in a local, and is lent to the call. What a host does that keeps its
 // record in one place; by value, so that whoever calls these two needs no walk.
-ghost use Rattle.versions.specs.Runs.{BeginContract, CommitContract};
+ghost use Rattle.versions_runs.specs.Runs.{BeginContract, CommitContract};
 use reader::Turned;
 use reader::VersionRecord;
 

@@ -4,7 +4,7 @@ ghost use mathlib.Core.Path.{_≡_};
 ghost use mathlib.Core.List.{[], _∷_};
 ghost use lib.IntN.{pos};
 ghost use Rattle.calls.specs.Numbers.{ofNumbered, ofSeen, ofRolled, ofPlaced, ofHeader, ofLoaded};
-ghost use Rattle.changes.specs.PlacedNumbers.{Numbers};
+ghost use Rattle.changes_rows.specs.PlacedNumbers.{Numbers};
 ghost use Rattle.probe.specs.Probed.{padded};
 use reader::Header;
 use reader::Loaded;

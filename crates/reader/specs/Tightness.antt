@@ -6,26 +6,26 @@ use mathlib.Core.List.{List}
 use Prim.Native.Nat.{ℕ}
 use lib.IntN.{ℤ}
 use Rattle.versions.specs.declared.VersionRecord.{VersionRecord}
-use Rattle.versions.specs.declared.Numbered.{Numbered}
-use Rattle.versions.specs.declared.Turned.{Turned}
-use Rattle.versions.specs.Runs.{OpenContract, BeginContract, CommitContract, leaving}
-use Rattle.versions.specs.RunLaws.{one-opened, one-begun, one-committed}
+use Rattle.versions_runs.specs.declared.Numbered.{Numbered}
+use Rattle.versions_runs.specs.declared.Turned.{Turned}
+use Rattle.versions_runs.specs.Runs.{OpenContract, BeginContract, CommitContract, leaving}
+use Rattle.versions_runs.specs.RunLaws.{one-opened, one-begun, one-committed}
 use Rattle.reads.specs.declared.Seen.{Seen}
-use Rattle.reads.specs.declared.Rolled.{Rolled}
+use Rattle.reads_roll_up.specs.declared.Rolled.{Rolled}
 use Rattle.reads.specs.ReadSlot.{ReadSlotContract}
 use Rattle.reads.specs.ReadSlot as readSlot
 use Rattle.reads.specs.ReadKey.{ReadKeyContract}
 use Rattle.reads.specs.ReadKey as readKey
-use Rattle.reads.specs.RollUp.{RollUpContract}
-use Rattle.reads.specs.RollUp as rollUp
-use Rattle.changes.specs.declared.Placed.{Placed}
+use Rattle.reads_roll_up.specs.RollUp.{RollUpContract}
+use Rattle.reads_roll_up.specs.RollUp as rollUp
+use Rattle.changes_rows.specs.declared.Placed.{Placed}
 use Rattle.changes.specs.Insert.{InsertContract}
 use Rattle.changes.specs.Insert as insert
 use Rattle.changes.specs.Update.{UpdateContract}
 use Rattle.changes.specs.Update as update
 use Rattle.changes.specs.Delete.{DeleteContract}
 use Rattle.changes.specs.Delete as delete
-use Rattle.blocks.specs.declared.Saved.{Saved}
+use Rattle.blocks_saves.specs.declared.Saved.{Saved}
 use Rattle.blocks.specs.declared.Header.{Header}
 use Rattle.blocks.specs.declared.Loaded.{Loaded}
 use Rattle.blocks.specs.SaveHeader.{SaveHeaderContract}

@@ -4,36 +4,36 @@
 // The version record, with its largest version `VersionRecord::LARGEST` and the fresh record `VersionRecord::fresh`.
 pub use versions::VersionRecord;
 // What open, begin and commit answer: the number of a version, or a refusal.
-pub use versions::Numbered;
+pub use versions_runs::Numbered;
 // What a slot or a key read answers: a row, no row, or a refusal.
 pub use reads::Seen;
 // What a roll-up answers: the count and both sums, or a refusal.
-pub use reads::Rolled;
+pub use reads_roll_up::Rolled;
 // What a change answers: the number of its slot, or a refusal.
-pub use changes::Placed;
+pub use changes_rows::Placed;
 // What a save hands out: 0 or the refusal, and the block.
-pub use blocks::Saved;
+pub use blocks_saves::Saved;
 // What load header answers: slots and current, or a refusal.
 pub use blocks::Header;
 // What load block answers: that it is done, or a refusal.
 pub use blocks::Loaded;
 
 // Open: the current version.
-pub use versions::open;
+pub use versions_runs::open;
 // Begin a run, on a lent record: the run's number.
-pub use versions::begin;
+pub use versions_runs::begin;
 // Commit it, on a lent record: the new current version.
-pub use versions::commit;
+pub use versions_runs::commit;
 // Begin and commit with the record handed over and back by value, and what they leave: the answer and the record.
-pub use versions::Turned;
-pub use versions::begin_by_value;
-pub use versions::commit_by_value;
+pub use versions_runs::Turned;
+pub use versions_runs::begin_by_value;
+pub use versions_runs::commit_by_value;
 // Read a slot, at a session's version.
 pub use reads::read_slot;
 // Read a key, at a session's version.
 pub use reads::read_key;
 // Roll up the rows with a first key word, at a session's version.
-pub use reads::roll_up;
+pub use reads_roll_up::roll_up;
 // Insert a row, in a run.
 pub use changes::insert;
 // Update a row's totals, in a run.

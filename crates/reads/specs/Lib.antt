@@ -1,13 +1,10 @@
 pub mod Table1
-pub mod RollUpBounds
 pub mod Table1Laws
 pub mod ShownLaws
 pub mod OpenLaws
 pub mod SessionTests
 pub mod ReadSlot
 pub mod ReadKey
-pub mod RollUp
 pub mod ReadOutcomes
-pub mod RollUpLaws
 pub mod RowExpiry
 pub mod RowExpiryLaws

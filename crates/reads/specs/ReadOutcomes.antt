@@ -1,5 +1,5 @@
 -- What comes of a read of a table and a record that are not refused, by a session that is born: it is refused as expired, or
--- answers what Table 1 and the tally give. Assumes nothing.
+-- answers what Table 1 gives. Assumes nothing.
 use mathlib.Core.Path.{_≡_, ap, _∙_}
 use mathlib.Core.Bool.{Bool, true, false, not}
 use mathlib.Core.List.{List, _∷_, _++_}
@@ -12,15 +12,13 @@ use Rattle.versions.specs.declared.VersionRecord.{VersionRecord}
 use Rattle.versions.specs.Record.{badRecord}
 use Rattle.versions.specs.Sessions.{unborn, expired}
 use Rattle.table.specs.Slots.{badTable, slots, slotAt}
-use Rattle.table_forms.specs.Formed.{wellFormed, anyBroken}
+use Rattle.table_forms.specs.Formed.{wellFormed}
 use Rattle.table_keys.specs.Keys.{keyed}
 use Rattle.reads.specs.declared.Seen.the-variants.{Refused}
-use Rattle.reads.specs.declared.Rolled.the-variants as rolled
 use Rattle.reads.specs.Table1.{shown}
 use Rattle.reads.specs.SessionTests.{sessionTests}
 use Rattle.reads.specs.ReadSlot.{readSlotRefusal, readSlotAnswer}
 use Rattle.reads.specs.ReadKey.{readKeyRefusal, readKeyAnswer}
-use Rattle.reads.specs.RollUp.{tally, seen, sums, rollUpRefusal, rollUpAnswer}
 
 module _ (t : List ℤ) (v : VersionRecord) (s : ℤ) (shape : badTable t ≡ false) (known : badRecord v ≡ false) (born : unborn v s ≡ false) where
   -- 1, 2 and 3 are not given
@@ -28,16 +26,12 @@ module _ (t : List ℤ) (v : VersionRecord) (s : ℤ) (shape : badTable t ≡ fa
   past3 l = skip 1 _ shape ∙ skip 2 _ known ∙ skip 3 _ born
 
   -- ---- once the session is expired, every read's refusal is 4
-  is4 : expired v s ≡ true → (l : List (Bool × ℕ)) → first (sessionTests t v s ++ l) ≡ 4
+  pub is4 : expired v s ≡ true → (l : List (Bool × ℕ)) → first (sessionTests t v s ++ l) ≡ 4
   is4 x l = past3 _ ∙ hit _ x
 
   pub key-expired : (key1 key2 : ℤ) → expired v s ≡ true → readKeyAnswer t v s key1 key2 ≡ Refused 4
   unfolding readKeyAnswer readKeyRefusal
   key-expired key1 key2 x = rw (is4 x)
-
-  pub roll-up-expired : (key1 : ℤ) → expired v s ≡ true → rollUpAnswer t v s key1 ≡ rolled.Refused 4
-  unfolding rollUpAnswer rollUpRefusal
-  roll-up-expired key1 x = rw (is4 x)
 
   pub slot-expired : (k : ℕ) → expired v s ≡ true → readSlotAnswer t v s k ≡ Refused 4
   unfolding readSlotAnswer readSlotRefusal
@@ -45,16 +39,12 @@ module _ (t : List ℤ) (v : VersionRecord) (s : ℤ) (shape : badTable t ≡ fa
 
   -- ---- while it is open
   module _ (kept : expired v s ≡ false) where
-    past4 : (l : List (Bool × ℕ)) → first (sessionTests t v s ++ l) ≡ first l
+    pub past4 : (l : List (Bool × ℕ)) → first (sessionTests t v s ++ l) ≡ first l
     past4 l = past3 _ ∙ skip 4 _ kept
 
     pub key-shown : (key1 key2 : ℤ) → wellFormed (keyed t key1 key2) v ≡ true → readKeyAnswer t v s key1 key2 ≡ shown s (keyed t key1 key2)
     unfolding readKeyAnswer readKeyRefusal
     key-shown key1 key2 w = rw (past4 _ ∙ skip 6 _ (ap not w) ∙ done)
-
-    pub roll-up-summed : (key1 : ℤ) → anyBroken t v ≡ false → rollUpAnswer t v s key1 ≡ sums (tally key1 (seen t s (slots t)))
-    unfolding rollUpAnswer rollUpRefusal
-    roll-up-summed key1 w = rw (past4 _ ∙ skip 6 _ w ∙ done)
 
     pub slot-past : (k : ℕ) → slots t ≤ k → readSlotAnswer t v s k ≡ Refused 5
     unfolding readSlotAnswer readSlotRefusal

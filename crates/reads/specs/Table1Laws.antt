@@ -1,21 +1,17 @@
--- The laws of Table 1, one for each sentence of RULES.md (The decision tables): each is one cell. And one of totals: those of a
--- row that is shown of a well formed slot are lawful, since both its pairs are. Assumes nothing.
+-- The laws of Table 1, one for each sentence of RULES.md (The decision tables): each is one cell.
+-- Assumes nothing.
 use mathlib.Core.Path.{_≡_, refl}
 use mathlib.Core.Bool.{true, false}
 use lib.IntN.{ℤ}
 use lib.Signed.{leZ}
 use Rattle.laws.specs.TestLaws.{clash}
-use Rattle.versions.specs.declared.VersionRecord.{VersionRecord}
 use Rattle.table.specs.declared.Slot.{Slot}
 use Rattle.table.specs.Slots.{empty}
 use Rattle.table_forms.specs.Operations.{insertOperation, updateOperation, deleteOperation, live}
 use Rattle.table_forms.specs.OperationLaws.{live-cases, column-insert, column-update, column-delete}
-use Rattle.table_forms.specs.Formed.{wellFormed}
-use Rattle.table_forms.specs.FormedLaws.{formed-cases}
 use Rattle.reads.specs.declared.Seen.the-variants.{NoRow}
 use Rattle.reads.specs.Table1.{currentRow, oldRow, shown}
-use Rattle.reads.specs.ShownLaws.{shown-cases, shown-own}
-use Rattle.reads.specs.RollUpBounds.{LawfulRow}
+use Rattle.reads.specs.ShownLaws.{shown-own}
 
 -- ---- run number ≤ session: current totals, or no row if deleted
 pub shown-current : (s : ℤ) (x : Slot) → leZ (x .run) s ≡ true → live x ≡ true → shown s x ≡ currentRow x
@@ -43,8 +39,3 @@ shown-inserted s x h e = rw (h, column-insert x e) refl
 -- ---- an empty slot is no row
 pub shown-empty : (s : ℤ) → shown s empty ≡ NoRow
 shown-empty s = shown-own (λ r. r ≡ NoRow) s empty (λ u a b. clash refl u) refl
-
-pub shown-lawful : (s : ℤ) (x : Slot) (v : VersionRecord) → wellFormed x v ≡ true → LawfulRow (shown s x)
-shown-lawful s x v w =
-    formed-cases x v w (λ e. rw (e, shown-empty s) tt)
-    (λ u. shown-cases LawfulRow s x (λ n. search) (λ n. search) tt)

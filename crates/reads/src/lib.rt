@@ -1,20 +1,16 @@
-// What a session reads: Table 1, and the three reads, of a slot, of a key, and the roll-up. Each read begins with the tests of
-// its session, and walks the table at most once. `show` is a leaf for our other crates.
+// What a session reads: Table 1, and the reads of a slot and of a key. Each read begins with the tests of its session, and walks
+// the table at most once. `show` and `session_refusal` are leaves for our other crates.
 ghost use mathlib.Core.Path.{_≡_};
 ghost use mathlib.Core.Bool.{false};
 ghost use mathlib.Core.List.{[], _∷_};
-ghost use Prim.Native.Nat.{_-_};
 ghost use Rattle.refusals.specs.Refusals.{brokenSlot};
 ghost use Rattle.laws.specs.First.{first, unless};
 ghost use Rattle.versions.specs.Record.{badRecord};
-ghost use Rattle.table.specs.Slots.{mostSlots};
 ghost use Rattle.table_forms.specs.Formed.{broken};
 ghost use Rattle.reads.specs.Table1.{shown};
-ghost use Rattle.reads.specs.RollUpBounds.{LawfulRow, Bounded};
 ghost use Rattle.reads.specs.SessionTests.{sessionRefusal};
 ghost use Rattle.reads.specs.ReadSlot.{ReadSlotContract};
 ghost use Rattle.reads.specs.ReadKey.{ReadKeyContract};
-ghost use Rattle.reads.specs.RollUp.{tallied, RollUpContract};
 use table::Slot;
 use versions::VersionRecord;
 
@@ -28,23 +24,6 @@ pub enum Seen {
     },
     NoRow,
     Refused(u32),
-}
-
-// What a roll-up answers: the count of rows and the sums of both totals, or a refusal.
-pub enum Rolled {
-    Sums {
-        count: u32,
-        total1: i64,
-        total2: i64,
-    },
-    Refused(u32),
-}
-
-// The count of rows so far, and the sums of both totals.
-pub struct Tally {
-    pub count: u32,
-    pub total1: i64,
-    pub total2: i64,
 }
 
 // The cells of Table 1.
@@ -98,7 +77,7 @@ pub fn show(x: Slot, session: i64) -> Seen
 }
 
 // The refusals that begin every read's list, 0 for none. The tests of 1 and 2 are one branch where neither holds.
-fn session_refusal(table: &[i64], versions: VersionRecord, session: i64) -> u32
+pub fn session_refusal(table: &[i64], versions: VersionRecord, session: i64) -> u32
     ensures { λ r. ⌜ r ≡ sessionRefusal (now (table .entry)) versions session ⌝ }
 {
     let bad_table = table::bad_table(table);
@@ -159,60 +138,4 @@ pub fn read_key(table: &[i64], versions: VersionRecord, session: i64, key1: i64,
         return Seen::NoRow;
     }
     show_formed(table::slot_at(table, k), versions, session)
-}
-
-// The tally with what a session sees of one slot more: a row with that first key word counts.
-fn tally_slot(tally: Tally, x: Slot, session: i64, key1: i64) -> Tally
-    requires { ⌜ LawfulRow (shown session x) ⌝ }
-    requires { ⌜ Bounded (mostSlots - 1) tally ⌝ }
-    ensures { λ r. ⌜ r ≡ tallied key1 (shown session x) tally ⌝ }
-{
-    let own = x.key1;
-    if own != key1 {
-        return tally;
-    }
-    match show(x, session) {
-        Seen::Row {
-            key1: _,
-            key2: _,
-            total1,
-            total2,
-        } => Tally {
-            count: tally.count + 1,
-            total1: tally.total1 + total1,
-            total2: tally.total2 + total2,
-        },
-        Seen::NoRow => tally,
-        Seen::Refused(_) => tally,
-    }
-}
-
-// Roll-up, in one pass: each slot is tested, and then counted.
-pub fn roll_up(table: &[i64], versions: VersionRecord, session: i64, key1: i64) -> Rolled
-    ensures { λ r. ⌜ RollUpContract (now (table .entry)) versions session key1 r ⌝ }
-{
-    let refusal = session_refusal(table, versions, session);
-    if refusal != 0 {
-        return Rolled::Refused(refusal);
-    }
-    let slots = table::slots_of(table);
-    let mut tally = Tally {
-        count: 0,
-        total1: 0,
-        total2: 0,
-    };
-    let mut k: usize = 0;
-    while k < slots {
-        let x = table::slot_at(table, k);
-        if table_forms::is_broken(x, versions) {
-            return Rolled::Refused(refusals::BROKEN_SLOT);
-        }
-        tally = tally_slot(tally, x, session, key1);
-        k += 1;
-    }
-    Rolled::Sums {
-        count: tally.count,
-        total1: tally.total1,
-        total2: tally.total2,
-    }
 }

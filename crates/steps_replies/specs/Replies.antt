@@ -3,12 +3,12 @@
 use mathlib.Core.List.{List, [], _∷_, _++_}
 use Prim.Native.Nat.{ℕ}
 use lib.IntN.{ℤ, pos}
-use Rattle.versions.specs.declared.Numbered.{Numbered}
-use Rattle.versions.specs.declared.Numbered.the-variants as numbered
+use Rattle.versions_runs.specs.declared.Numbered.{Numbered}
+use Rattle.versions_runs.specs.declared.Numbered.the-variants as numbered
 use Rattle.reads.specs.declared.Seen.{Seen}
 use Rattle.reads.specs.declared.Seen.the-variants as seen
-use Rattle.changes.specs.declared.Placed.{Placed}
-use Rattle.changes.specs.declared.Placed.the-variants as placed
+use Rattle.changes_rows.specs.declared.Placed.{Placed}
+use Rattle.changes_rows.specs.declared.Placed.the-variants as placed
 use Rattle.steps_commands.specs.Commands.{spaceByte}
 use Rattle.steps_replies.specs.Decimals.{numeral}
 

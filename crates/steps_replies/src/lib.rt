@@ -11,12 +11,12 @@ ghost use Rattle.steps_replies.specs.Decimals.{numeral};
 ghost use Rattle.steps_replies.specs.Replies.{lineOf, refusedLine, versionLine, slotLine, rowLine, badLine};
 ghost use Rattle.steps_replies.specs.Written.{longestLine, Written};
 ghost use Rattle.steps_replies.specs.Puts.{Room, Put};
-use changes::Placed;
+use changes_rows::Placed;
 use reads::Seen;
 use steps_commands::MINUS;
 use steps_commands::SPACE;
 use steps_commands::ZERO;
-use versions::Numbered;
+use versions_runs::Numbered;
 
 // The longest line that is answered: row, and two numbers of 20 bytes, a space before each, and a newline.
 pub const LONGEST_LINE: usize = 46;

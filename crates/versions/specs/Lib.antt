@@ -2,5 +2,3 @@ pub mod Record
 pub mod RecordLaws
 pub mod Sessions
 pub mod SessionLaws
-pub mod Runs
-pub mod RunLaws

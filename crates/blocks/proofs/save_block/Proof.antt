@@ -7,7 +7,8 @@ use Rattle.laws.specs.First.{first}
 use Rattle.blocks.specs.FrontLaws.{within}
 use Rattle.blocks.specs.BlockTests.{blockTests}
 use Rattle.blocks.specs.SaveBlock.{saveBlockRefusal}
-use Rattle.blocks.specs.ContractLaws.{zeros-handed, block-saved}
+use Rattle.blocks.specs.ContractLaws.{block-saved}
+use Rattle.blocks_saves.specs.HandedOutLaws.{zeros-handed}
 use Rattle.blocks.proofs.save_block.Statement.{statement}
 use Rattle.blocks.proofs.save_block.Tie as tie
 

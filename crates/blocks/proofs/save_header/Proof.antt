@@ -12,7 +12,8 @@ use Rattle.table.specs.SlotLaws.{lengths}
 use Rattle.blocks.specs.BlockTests.{idleTests}
 use Rattle.blocks.specs.HeaderLaws.{Natural, current-natural}
 use Rattle.blocks.specs.SaveHeader.{saveHeaderRefusal}
-use Rattle.blocks.specs.ContractLaws.{zeros-handed, header-saved}
+use Rattle.blocks.specs.ContractLaws.{header-saved}
+use Rattle.blocks_saves.specs.HandedOutLaws.{zeros-handed}
 use Rattle.blocks.proofs.save_header.Statement.{statement}
 use Rattle.blocks.proofs.save_header.Tie as tie
 

@@ -7,7 +7,8 @@ use Rattle.laws.specs.Bits.{plain}
 use Rattle.changes.specs.RunningLaws.{running}
 use Rattle.changes.specs.ChangeTests.{runningTests, runningRefusal}
 use Rattle.changes.specs.Delete.{deleteRefusal}
-use Rattle.changes.specs.PlacedLaws.{refused, passed, delete-leaves}
+use Rattle.changes.specs.PlacedLaws.{delete-leaves}
+use Rattle.changes_rows.specs.LeavesLaws.{refused, passed}
 use Rattle.changes.proofs.delete.Statement.{statement}
 use Rattle.changes.proofs.delete.Tie as tie
 

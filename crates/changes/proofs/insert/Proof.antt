@@ -5,7 +5,8 @@ use borrow.Author.Needs.{needs}
 use Rattle.laws.specs.FirstLaws.{pass, stop}
 use Rattle.laws.specs.Bits.{plain}
 use Rattle.changes.specs.Insert.{insertRefusal}
-use Rattle.changes.specs.PlacedLaws.{given, refused, passed, insert-leaves}
+use Rattle.changes.specs.PlacedLaws.{given, insert-leaves}
+use Rattle.changes_rows.specs.LeavesLaws.{refused, passed}
 use Rattle.changes.specs.ChangeTests.{givenTests, givenRefusal}
 use Rattle.changes.proofs.insert.Statement.{statement}
 use Rattle.changes.proofs.insert.Tie as tie

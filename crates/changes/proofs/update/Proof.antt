@@ -5,7 +5,8 @@ use borrow.Author.Needs.{needs}
 use Rattle.laws.specs.FirstLaws.{pass, stop}
 use Rattle.laws.specs.Bits.{plain}
 use Rattle.changes.specs.Update.{updateRefusal}
-use Rattle.changes.specs.PlacedLaws.{given, refused, passed, update-leaves}
+use Rattle.changes.specs.PlacedLaws.{given, update-leaves}
+use Rattle.changes_rows.specs.LeavesLaws.{refused, passed}
 use Rattle.changes.specs.ChangeTests.{givenTests, givenRefusal}
 use Rattle.changes.proofs.update.Statement.{statement}
 use Rattle.changes.proofs.update.Tie as tie

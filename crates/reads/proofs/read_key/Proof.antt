@@ -4,15 +4,15 @@ use mathlib.Core.Path.{_≡_, sym, ap, _∙_}
 use mathlib.Core.Bool.{not}
 use borrow.Author.Needs.{needs}
 use Rattle.laws.specs.Bits.{plain}
-use Rattle.laws.specs.FirstLaws.{after, unless-refused, unless-done, skip, done, pass, stop}
+use Rattle.laws.specs.FirstLaws.{after, unless-refused, unless-done, skip, done}
 use Rattle.laws.specs.First.{first}
 use Rattle.table.specs.Slots.{empty}
 use Rattle.table.specs.SlotLaws.{slotAt-past}
 use Rattle.table_forms.specs.FormedLaws.{empty-formed}
 use Rattle.table_keys.specs.Keys.{keySlot, keyed}
 use Rattle.reads.specs.declared.Seen.the-variants.{Refused}
-use Rattle.reads.specs.SessionTests.{sessionTests, sessionRefusal}
-use Rattle.reads.specs.OpenLaws.{Open, opened}
+use Rattle.reads.specs.SessionTests.{sessionRefusal}
+use Rattle.reads.specs.OpenLaws.{Open, opened, session-stops, session-passes}
 use Rattle.reads.specs.Table1Laws.{shown-empty}
 use Rattle.reads.specs.ReadKey.{readKeyTests, readKeyRefusal, readKeyAnswer}
 use Rattle.reads.proofs.read_key.Statement.{statement}
@@ -35,8 +35,8 @@ can c = opened _ _ _ (asked (c .before) ∙ c .if1 .left)
 past4 : (c : Allowed) → let a = start c .args in
     readKeyRefusal (a .table .now) (a .versions) (a .session) (a .key1) (a .key2)
     ≡ first (after 4 (readKeyTests (a .table .now) (a .versions) (a .session) (a .key1) (a .key2)))
-unfolding readKeyRefusal sessionRefusal
-past4 c = pass (sessionTests _ _ _) _ tt (asked (c .before) ∙ c .if1 .left)
+unfolding readKeyRefusal
+past4 c = session-passes _ _ _ _ (asked (c .before) ∙ c .if1 .left)
 
 -- the search found the key's slot
 found : (c : tie.After-key-slot) → let a = start (c .before) .args in c .key-slot .result ≡ keySlot (a .table .now) (a .key1) (a .key2)
@@ -47,8 +47,8 @@ abbrev allowed-to : tie.Else2 → Allowed
 allowed-to c = c .before .before .before
 
 is1-to-4 : tie.Need-returns
-unfolding readKeyRefusal readKeyAnswer sessionRefusal
-is1-to-4 c = record { answer = unless-refused Refused _ (stop (sessionTests _ _ _) _ _ (asked (c .before)) (c .if1 .taken)) (c .if1 .taken) }
+unfolding readKeyRefusal readKeyAnswer
+is1-to-4 c = record { answer = unless-refused Refused _ (session-stops _ _ _ _ (asked (c .before)) (c .if1 .taken)) (c .if1 .taken) }
 
 -- an absent key's slot is the empty one, which is well formed and no row
 absent : tie.Need-returns-2

@@ -7,11 +7,11 @@ use native.Mathlib.Omega.{arith}
 use borrow.Author.Needs.{needs}
 use borrow.Author.Tests.{lt-ltb, le-ltb}
 use Rattle.laws.specs.Bits.{plain}
-use Rattle.laws.specs.FirstLaws.{after, unless-refused, skip, hit, pass, stop}
+use Rattle.laws.specs.FirstLaws.{after, unless-refused, skip, hit}
 use Rattle.laws.specs.First.{first}
 use Rattle.reads.specs.declared.Seen.the-variants.{Refused}
-use Rattle.reads.specs.SessionTests.{sessionTests, sessionRefusal}
-use Rattle.reads.specs.OpenLaws.{Open, opened}
+use Rattle.reads.specs.SessionTests.{sessionRefusal}
+use Rattle.reads.specs.OpenLaws.{Open, opened, session-stops, session-passes}
 use Rattle.reads.specs.ReadSlot.{readSlotTests, readSlotRefusal, readSlotAnswer}
 use Rattle.reads.proofs.read_slot.Statement.{statement}
 use Rattle.reads.proofs.read_slot.Tie as tie
@@ -38,15 +38,15 @@ can : (c : Allowed) → let a = start c .args in Open (a .table .now) (a .versio
 can c = opened _ _ _ (asked (c .before) ∙ c .if1 .left)
 
 past4 : (c : Allowed) → Past 4 (start c)
-unfolding readSlotRefusal sessionRefusal
-past4 c = pass (sessionTests _ _ _) _ tt (asked (c .before) ∙ c .if1 .left)
+unfolding readSlotRefusal
+past4 c = session-passes _ _ _ _ (asked (c .before) ∙ c .if1 .left)
 
 past5 : (c : tie.Else2) → Past 5 (start (c .before .before))
 past5 c = past4 (c .before .before) ∙ skip _ _ (ap not (lt-ltb _ _ (rw (c .before .slots-of .ensures) at (c .if2 .left))))
 
 is1-to-4 : tie.Need-returns
-unfolding readSlotRefusal readSlotAnswer sessionRefusal
-is1-to-4 c = record { answer = unless-refused Refused _ (stop (sessionTests _ _ _) _ _ (asked (c .before)) (c .if1 .taken)) (c .if1 .taken) }
+unfolding readSlotRefusal readSlotAnswer
+is1-to-4 c = record { answer = unless-refused Refused _ (session-stops _ _ _ _ (asked (c .before)) (c .if1 .taken)) (c .if1 .taken) }
 
 is5 : tie.Need-returns-2
 unfolding readSlotAnswer

@@ -1,7 +1,7 @@
 -- `probe::lent::begin_by_value`: by value it does what `begin` does on a lent record, by the walk of `Lending`. Assumes nothing.
 use mathlib.Core.Path.{refl}
-use Rattle.versions.specs.Runs.{BeginContract}
-use Rattle.versions.proofs.begin.Met.{met}
+use Rattle.versions_runs.specs.Runs.{BeginContract}
+use Rattle.versions_runs.proofs.begin.Met.{met}
 use Rattle.probe.proofs.Lending.{lending-meets}
 use Rattle.probe.proofs.lent.begin_by_value.Key.{name}
 use Rattle.probe.proofs.lent.begin_by_value.Statement.{statement}

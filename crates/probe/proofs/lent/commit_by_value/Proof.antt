@@ -1,8 +1,8 @@
 -- `probe::lent::commit_by_value`: by value it does what `commit` does on a lent record, by the walk of `Lending`.
 -- Assumes nothing.
 use mathlib.Core.Path.{refl}
-use Rattle.versions.specs.Runs.{CommitContract}
-use Rattle.versions.proofs.commit.Met.{met}
+use Rattle.versions_runs.specs.Runs.{CommitContract}
+use Rattle.versions_runs.proofs.commit.Met.{met}
 use Rattle.probe.proofs.Lending.{lending-meets}
 use Rattle.probe.proofs.lent.commit_by_value.Key.{name}
 use Rattle.probe.proofs.lent.commit_by_value.Statement.{statement}

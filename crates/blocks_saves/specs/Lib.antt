@@ -1,0 +1,5 @@
+pub mod SlotBlocks
+pub mod HandedOut
+pub mod SlotBlockLaws
+pub mod HandedOutLaws
+pub mod SlotsBack

@@ -1,0 +1,4 @@
+pub mod RollUp
+pub mod RollUpBounds
+pub mod RollUpLaws
+pub mod RollUpOutcomes
