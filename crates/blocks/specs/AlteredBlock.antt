@@ -8,7 +8,7 @@ use Rattle.versions.specs.declared.VersionRecord.{VersionRecord}
 use Rattle.versions.specs.Record.{badRecord}
 use Rattle.table.specs.Slots.{badTable}
 use Rattle.blocks_words.specs.AlteredWord.{OneWordChanged, check-wrong}
-use Rattle.blocks_loads.specs.HeaderFieldLaws.{header-words}
+use Rattle.blocks_headers.specs.HeaderFieldLaws.{header-words}
 use Rattle.blocks.specs.HeaderLaws.{header-lawful, header-block}
 use Rattle.blocks_saves.specs.SlotBlocks.{noSuchBlock}
 use Rattle.blocks.specs.FrontLaws.{front-passes}

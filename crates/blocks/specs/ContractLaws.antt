@@ -7,7 +7,7 @@ use Rattle.laws.specs.FirstLaws.{unless-refused, unless-done}
 use Rattle.versions.specs.declared.VersionRecord.{VersionRecord}
 use Rattle.table.specs.Slots.{slots}
 use Rattle.blocks_words.specs.Longs.{blockSlots}
-use Rattle.blocks_loads.specs.HeaderFields.{headerWords}
+use Rattle.blocks_headers.specs.HeaderFields.{headerWords}
 use Rattle.blocks_loads.specs.LoadedSlots.{loadedTo}
 use Rattle.blocks_saves.specs.declared.Saved.{Saved}
 use Rattle.blocks.specs.declared.Header.{Header}

@@ -16,8 +16,8 @@ use Rattle.versions.specs.RecordLaws.{sound}
 use Rattle.table.specs.Slots.{slots}
 use Rattle.table.specs.SlotLaws.{lengths}
 use Rattle.blocks_words.specs.Words.{blockOf}
-use Rattle.blocks_loads.specs.HeaderFields.{headerWords}
-use Rattle.blocks_loads.specs.HeaderFieldLaws.{Lawful, slots-back, current-back}
+use Rattle.blocks_headers.specs.HeaderFields.{headerWords}
+use Rattle.blocks_headers.specs.HeaderFieldLaws.{Lawful, slots-back, current-back}
 use Rattle.blocks.specs.declared.Header.the-variants.{Holds}
 use Rattle.blocks.specs.SaveHeader.{saveHeaderRefusal, saveHeaderBlock}
 use Rattle.blocks.specs.LoadHeader.{headerOf}

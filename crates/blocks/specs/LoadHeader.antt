@@ -7,7 +7,7 @@ use Prim.Native.Nat.{ℕ}
 use lib.IntN.{pos}
 use Rattle.laws.specs.First.{first, unless}
 use Rattle.blocks_words.specs.Words.{wordAt}
-use Rattle.blocks_loads.specs.HeaderFields.{slotsPlace, currentPlace, headerWrong}
+use Rattle.blocks_headers.specs.HeaderFields.{slotsPlace, currentPlace, headerWrong}
 use Rattle.blocks.specs.declared.Header.{Header}
 use Rattle.blocks.specs.declared.Header.the-variants.{Holds, Refused}
 use Rattle.blocks.specs.BlockTests.{endTests}

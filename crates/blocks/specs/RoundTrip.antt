@@ -20,7 +20,7 @@ use Rattle.table_forms.specs.FormedLaws.{empty-zeros}
 use Rattle.blocks_words.specs.Words.{blockOf}
 use Rattle.blocks_words.specs.WordLaws.{block-length, check-right}
 use Rattle.blocks_words.specs.Longs.{blockSlots}
-use Rattle.blocks_loads.specs.HeaderFieldLaws.{header-words, header-right}
+use Rattle.blocks_headers.specs.HeaderFieldLaws.{header-words, header-right}
 use Rattle.blocks_loads.specs.LoadedSlots.{blocks, firstSlot, slotWrong, slotBlockWrong, loadedTo}
 use Rattle.blocks_loads.specs.AllowedLaws.{slots-allowed}
 use Rattle.blocks_loads.specs.LoadedLaws.{loaded-length, loaded-other, loaded-same}

@@ -9,7 +9,7 @@ use Rattle.laws.specs.First.{first, unless}
 use Rattle.versions.specs.declared.VersionRecord.{VersionRecord}
 use Rattle.table.specs.Slots.{slots}
 use Rattle.blocks_words.specs.Words.{blockOf, zeroBlock}
-use Rattle.blocks_loads.specs.HeaderFields.{headerWords}
+use Rattle.blocks_headers.specs.HeaderFields.{headerWords}
 use Rattle.blocks_saves.specs.declared.Saved.{Saved}
 use Rattle.blocks.specs.BlockTests.{idleTests}
 

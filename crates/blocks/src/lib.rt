@@ -49,7 +49,7 @@ fn block_refusal(table: &[i64], versions: VersionRecord, number: usize) -> u32
     if refusal != 0 {
         return refusal;
     }
-    if blocks_saves::slot_blocks::no_such_block(table, number) {
+    if blocks_saves::no_such_block(table, number) {
         return refusals::NO_SUCH_PLACE;
     }
     0
@@ -65,7 +65,7 @@ pub fn save_header(table: &[i64], versions: VersionRecord) -> Saved
     }
     let count = table::slots_of(table);
     let current = versions.current;
-    let block = blocks_saves::header_blocks::header_block(count as u32, current as u32);
+    let block = blocks_headers::header_block(count as u32, current as u32);
     Saved {
         refusal: 0,
         block: block,
@@ -80,7 +80,7 @@ pub fn save_block(table: &[i64], versions: VersionRecord, number: usize) -> Save
     if refusal != 0 {
         return blocks_saves::refused(refusal);
     }
-    blocks_saves::slot_blocks::save_slots(table, versions, number)
+    blocks_saves::save_slots(table, versions, number)
 }
 
 // Load header: 14, 15, 16. It answers slots and current.
@@ -93,12 +93,12 @@ pub fn load_header(block: &[u8]) -> Header
     if blocks_words::check_wrong(block) {
         return Header::Refused(refusals::WRONG_CHECK);
     }
-    if blocks_loads::header_fields::header_wrong(block) {
+    if blocks_headers::header_wrong(block) {
         return Header::Refused(refusals::BAD_FIELD);
     }
     Header::Holds {
-        slots: blocks_words::word_at(block, blocks_loads::header_fields::SLOTS_PLACE),
-        current: blocks_words::word_at(block, blocks_loads::header_fields::CURRENT_PLACE) as i64,
+        slots: blocks_words::word_at(block, blocks_headers::SLOTS_PLACE),
+        current: blocks_words::word_at(block, blocks_headers::CURRENT_PLACE) as i64,
     }
 }
 
@@ -116,9 +116,9 @@ pub fn load_block(table: &mut [i64], versions: VersionRecord, number: usize, blo
     if blocks_words::check_wrong(block) {
         return Loaded::Refused(refusals::WRONG_CHECK);
     }
-    if blocks_loads::loaded_slots::slot_block_wrong(table, versions, number, block) {
+    if blocks_loads::slot_block_wrong(table, versions, number, block) {
         return Loaded::Refused(refusals::BAD_FIELD);
     }
-    blocks_loads::loaded_slots::load_slots(table, number, block);
+    blocks_loads::load_slots(table, number, block);
     Loaded::Done
 }

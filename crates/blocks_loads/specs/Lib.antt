@@ -1,5 +1,3 @@
-pub mod HeaderFields
 pub mod LoadedSlots
 pub mod AllowedLaws
-pub mod HeaderFieldLaws
 pub mod LoadedLaws

@@ -11,7 +11,7 @@ use Rattle.table.specs.Slots.{freshTable, badTable, slotAt}
 use Rattle.table_forms.specs.Totals.{lawful}
 use Rattle.table_forms.specs.Formed.{allZeros, totalsLawful, usedWell, wellFormed}
 use Rattle.blocks_words.specs.Words.{checkPlace, bytesOf, blockOf, wordAt}
-use Rattle.blocks_loads.specs.HeaderFields.{headerWords}
+use Rattle.blocks_headers.specs.HeaderFields.{headerWords}
 use Rattle.blocks_saves.specs.SlotBlocks.{slotBlockWords, blockBroken}
 use Rattle.blocks.specs.SaveHeader.{saveHeaderRefusal, saveHeaderBlock}
 use Rattle.blocks.specs.SaveBlock.{saveBlockRefusal, saveBlockBlock}

@@ -1,0 +1,2 @@
+pub mod HeaderFields
+pub mod HeaderFieldLaws
