@@ -10,13 +10,11 @@ enum { WORDS = 8 * PROBE_SLOT_WORDS, STORE = 1, DAY = 19961014 };
 
 static int64_t table[WORDS], record[PROBE_RECORD_WORDS] = PROBE_FRESH_RECORD, out[PROBE_OUT_WORDS];
 
-/* A run that stores a total, a row that is there already being updated: the version that it makes, 0 where it is refused. */
+/* A run that stores a total: the version that it makes, 0 where it is refused. */
 static int64_t refresh(int64_t total)
 {
     probe_begin(record, out);
-    probe_insert(table, WORDS, record, STORE, DAY, total, 0, out);
-    if (out[PROBE_REFUSAL] == PROBE_KEY_LIVE)
-        probe_update(table, WORDS, record, STORE, DAY, total, 0, out);
+    probe_put(table, WORDS, record, STORE, DAY, total, 0, out);
     if (out[PROBE_REFUSAL] == PROBE_ACCEPTED)
         probe_commit(record, out);
     return out[PROBE_VERSION];

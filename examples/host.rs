@@ -3,9 +3,8 @@
 //!     rt staticlib probe
 //!     rustc --edition 2024 -L target/staticlib -l static=probe -o host examples/host.rs && ./host
 
-// include/probe.h as Rust has it, with the refusals that this host answers to. A call that takes references alone is safe; beside a pointer the length has to be right.
+// include/probe.h as Rust has it, with the refusal that this host answers to. A call that takes references alone is safe; beside a pointer the length has to be right.
 const EXPIRED: i64 = 4;
-const KEY_LIVE: i64 = 10;
 
 type Record = [i64; 4];
 type Out = [i64; 8];
@@ -20,8 +19,7 @@ unsafe extern "C" {
     fn probe_read_slot(table: *const i64, words: usize, record: &Record, session: i64, slot: usize, out: &mut Out);
     fn probe_read_key(table: *const i64, words: usize, record: &Record, session: i64, key1: i64, key2: i64, out: &mut Out);
     fn probe_roll_up(table: *const i64, words: usize, record: &Record, session: i64, key1: i64, out: &mut Out);
-    fn probe_insert(table: *mut i64, words: usize, record: &Record, key1: i64, key2: i64, total1: i64, total2: i64, out: &mut Out);
-    fn probe_update(table: *mut i64, words: usize, record: &Record, key1: i64, key2: i64, total1: i64, total2: i64, out: &mut Out);
+    fn probe_put(table: *mut i64, words: usize, record: &Record, key1: i64, key2: i64, total1: i64, total2: i64, out: &mut Out);
     fn probe_delete(table: *mut i64, words: usize, record: &Record, key1: i64, key2: i64, out: &mut Out);
     fn probe_save_header(table: *const i64, words: usize, record: &Record, block: &mut Block, out: &mut Out);
     fn probe_save_block(table: *const i64, words: usize, record: &Record, number: usize, block: &mut Block, out: &mut Out);
@@ -43,16 +41,12 @@ fn answered([refusal, numbers @ ..]: Out) -> Result<[i64; 7], i64> {
     if refusal == 0 { Ok(numbers) } else { Err(refusal) }
 }
 
-/// A run that stores a total, and the version that it makes. A row that is there already is updated.
+/// A run that stores a total, and the version that it makes.
 fn refresh(host: &mut Host, total: i64) -> Result<i64, i64> {
     let mut out = Out::default();
     probe_begin(&mut host.record, &mut out);
     answered(out)?;
-    let table = host.table.as_mut_ptr();
-    unsafe { probe_insert(table, WORDS, &host.record, STORE, DAY, total, 0, &mut out) };
-    if answered(out) == Err(KEY_LIVE) {
-        unsafe { probe_update(table, WORDS, &host.record, STORE, DAY, total, 0, &mut out) };
-    }
+    unsafe { probe_put(host.table.as_mut_ptr(), WORDS, &host.record, STORE, DAY, total, 0, &mut out) };
     answered(out)?;
     probe_commit(&mut host.record, &mut out);
     let [version, ..] = answered(out)?;

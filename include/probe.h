@@ -75,11 +75,9 @@ enum probe_refusal {
     PROBE_NO_RUN = 8,
     /* current is PROBE_LARGEST_VERSION */
     PROBE_NO_VERSION_LEFT = 9,
-    /* the key to insert is live */
-    PROBE_KEY_LIVE = 10,
-    /* the key to update or delete is deleted or absent */
+    /* the key to delete is deleted or absent */
     PROBE_KEY_NOT_LIVE = 11,
-    /* the key to insert has no slot, and none is free */
+    /* the key to put has no slot, and none is free */
     PROBE_TABLE_FULL = 12,
     /* a given total is not from PROBE_LOWEST_TOTAL to PROBE_HIGHEST_TOTAL */
     PROBE_BAD_TOTAL = 13,
@@ -107,7 +105,7 @@ enum probe_place {
     PROBE_ROWS = 1,
     PROBE_SUM1 = 2,
     PROBE_SUM2 = 3,
-    /* insert, update, delete */
+    /* put, delete */
     PROBE_SLOT = 1,
     /* load header */
     PROBE_SLOTS = 1,
@@ -157,23 +155,14 @@ void probe_roll_up(const int64_t *table, size_t words,
                    const int64_t record[PROBE_RECORD_WORDS],
                    int64_t session, int64_t key1, int64_t out[PROBE_OUT_WORDS]);
 
-/* Inserts a row, in a run.
+/* Gives a key its totals, in a run, whether it has a row or not.
    Answers PROBE_SLOT, the number of the slot that it wrote.
    Refuses PROBE_BAD_TABLE, PROBE_BAD_RECORD, PROBE_NO_RUN, PROBE_BAD_TOTAL,
-   PROBE_BROKEN_SLOT (the key's slot alone), PROBE_KEY_LIVE, PROBE_TABLE_FULL. */
-void probe_insert(int64_t *table, size_t words,
-                  const int64_t record[PROBE_RECORD_WORDS],
-                  int64_t key1, int64_t key2, int64_t total1, int64_t total2,
-                  int64_t out[PROBE_OUT_WORDS]);
-
-/* Gives a row other totals, in a run.
-   Answers PROBE_SLOT, the number of the slot that it wrote.
-   Refuses PROBE_BAD_TABLE, PROBE_BAD_RECORD, PROBE_NO_RUN, PROBE_BAD_TOTAL,
-   PROBE_BROKEN_SLOT (the key's slot alone), PROBE_KEY_NOT_LIVE. */
-void probe_update(int64_t *table, size_t words,
-                  const int64_t record[PROBE_RECORD_WORDS],
-                  int64_t key1, int64_t key2, int64_t total1, int64_t total2,
-                  int64_t out[PROBE_OUT_WORDS]);
+   PROBE_BROKEN_SLOT (the key's slot alone), PROBE_TABLE_FULL. */
+void probe_put(int64_t *table, size_t words,
+               const int64_t record[PROBE_RECORD_WORDS],
+               int64_t key1, int64_t key2, int64_t total1, int64_t total2,
+               int64_t out[PROBE_OUT_WORDS]);
 
 /* Deletes a row, in a run.
    Answers PROBE_SLOT, the number of the slot that it wrote.

@@ -32,8 +32,7 @@ enum call {
     CALL_READ_SLOT,
     CALL_READ_KEY,
     CALL_ROLL_UP,
-    CALL_INSERT,
-    CALL_UPDATE,
+    CALL_PUT,
     CALL_DELETE,
     CALL_SAVE_HEADER,
     CALL_SAVE_BLOCK,
@@ -211,11 +210,8 @@ static void make_call(const struct request *request, const struct lent *lent)
     case CALL_ROLL_UP:
         probe_roll_up(table, words, record, number[0], number[1], out);
         break;
-    case CALL_INSERT:
-        probe_insert(table, words, record, number[0], number[1], number[2], number[3], out);
-        break;
-    case CALL_UPDATE:
-        probe_update(table, words, record, number[0], number[1], number[2], number[3], out);
+    case CALL_PUT:
+        probe_put(table, words, record, number[0], number[1], number[2], number[3], out);
         break;
     case CALL_DELETE:
         probe_delete(table, words, record, number[0], number[1], out);

@@ -66,7 +66,7 @@ fn compare(plan: &Plan) -> Result<(), String> {
     let mut random = Random::new(plan.seed);
     let mut caller = Caller::new(&plan.caller);
     let figures = figures::cases().map_err(|what| format!("the model misses a figure: {what}"))?;
-    println!("the model gives document 01's figures");
+    println!("the model gives the documents' figures");
     let compared = calls::compare(&mut caller, &mut random, plan.count, figures);
     let found = compared.map_err(|difference| {
         println!("a difference; the smallest case found:");
@@ -74,10 +74,7 @@ fn compare(plan: &Plan) -> Result<(), String> {
         "the library and the model differ".to_string()
     })?;
     found.print();
-    let missing = found.missing();
-    if !missing.is_empty() {
-        return Err(format!("not reached: {}", missing.join("; ")));
-    }
+    all_reached(&found.missing())?;
     compare_steps(plan, &mut random)
 }
 
@@ -88,7 +85,15 @@ fn compare_steps(plan: &Plan, random: &mut Random) -> Result<(), String> {
     };
     let inputs = plan.count / CALLS_FOR_A_STEPS_INPUT;
     let inputs = inputs.clamp(FEWEST_STEPS_INPUTS, MOST_STEPS_INPUTS);
-    let lines = steps::compare(program, random, inputs)?;
-    println!("{lines} lines of the program steps agree");
-    Ok(())
+    let found = steps::compare(program, random, inputs)?;
+    found.print();
+    all_reached(&found.missing())
+}
+
+fn all_reached(missing: &[String]) -> Result<(), String> {
+    if missing.is_empty() {
+        Ok(())
+    } else {
+        Err(format!("not reached: {}", missing.join("; ")))
+    }
 }

@@ -20,8 +20,7 @@ pub data Call : Type 0 where
   -- session, first key word
   rollUp : ℤ → ℤ → Call
   -- key one, key two, total one, total two
-  insert : ℤ → ℤ → ℤ → ℤ → Call
-  update : ℤ → ℤ → ℤ → ℤ → Call
+  put : ℤ → ℤ → ℤ → ℤ → Call
   -- key one, key two
   delete : ℤ → ℤ → Call
   saveHeader : Call

@@ -7,14 +7,13 @@ use Rattle.versions_runs.specs.Runs.{openAnswer, beginAnswer, beginRecord, comm
 use Rattle.reads.specs.ReadSlot.{readSlotAnswer}
 use Rattle.reads.specs.ReadKey.{readKeyAnswer}
 use Rattle.reads_roll_up.specs.RollUp.{rollUpAnswer}
-use Rattle.changes.specs.Insert.{insertAnswer, insertWords}
-use Rattle.changes.specs.Update.{updateAnswer, updateWords}
+use Rattle.changes.specs.Put.{putAnswer, putWords}
 use Rattle.changes.specs.Delete.{deleteAnswer, deleteWords}
 use Rattle.blocks.specs.SaveHeader.{saveHeaderRefusal, saveHeaderBlock}
 use Rattle.blocks.specs.SaveBlock.{saveBlockRefusal, saveBlockBlock}
 use Rattle.blocks.specs.LoadHeader.{loadHeaderAnswer}
 use Rattle.blocks.specs.LoadBlock.{loadBlockAnswer, loadBlockWords}
-use Rattle.calls.specs.Calls.{Call, openSession, begin, commit, readSlot, readKey, rollUp, insert, update, delete, saveHeader, saveBlock, loadHeader, loadBlock, Answer, numbered, seen, rolled, placed, saved, header, loaded}
+use Rattle.calls.specs.Calls.{Call, openSession, begin, commit, readSlot, readKey, rollUp, put, delete, saveHeader, saveBlock, loadHeader, loadBlock, Answer, numbered, seen, rolled, placed, saved, header, loaded}
 
 -- the lent things: the table's words, the record, and the block last handed out or lent
 pub record State : Type 0 where
@@ -46,10 +45,8 @@ perform commit st = done (numbered (commitAnswer (st .versions))) (withVersion s
 perform (readSlot s k) st = done (seen (readSlotAnswer (st .words) (st .versions) s k)) st
 perform (readKey s key1 key2) st = done (seen (readKeyAnswer (st .words) (st .versions) s key1 key2)) st
 perform (rollUp s key1) st = done (rolled (rollUpAnswer (st .words) (st .versions) s key1)) st
-perform (insert key1 key2 total1 total2) st =
-    done (placed (insertAnswer (st .words) (st .versions) key1 key2 total1 total2)) (withWords st (insertWords (st .words) (st .versions) key1 key2 total1 total2))
-perform (update key1 key2 total1 total2) st =
-    done (placed (updateAnswer (st .words) (st .versions) key1 key2 total1 total2)) (withWords st (updateWords (st .words) (st .versions) key1 key2 total1 total2))
+perform (put key1 key2 total1 total2) st =
+    done (placed (putAnswer (st .words) (st .versions) key1 key2 total1 total2)) (withWords st (putWords (st .words) (st .versions) key1 key2 total1 total2))
 perform (delete key1 key2) st =
     done (placed (deleteAnswer (st .words) (st .versions) key1 key2)) (withWords st (deleteWords (st .words) (st .versions) key1 key2))
 perform saveHeader st =

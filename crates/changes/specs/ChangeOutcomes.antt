@@ -11,9 +11,8 @@ use Rattle.versions.specs.declared.VersionRecord.{VersionRecord}
 use Rattle.table_keys.specs.Keys.{keySlot}
 use Rattle.changes_rows.specs.declared.Placed.{Placed}
 use Rattle.changes_rows.specs.declared.Placed.the-variants.{InSlot, Refused}
-use Rattle.changes.specs.Insert.{insertRefusal, insertAnswer, insertWords}
-use Rattle.changes_rows.specs.RowTests.{insertSlot}
-use Rattle.changes.specs.Update.{updateRefusal, updateAnswer, updateWords}
+use Rattle.changes.specs.Put.{putRefusal, putAnswer, putWords}
+use Rattle.changes_rows.specs.PutRow.{slotToTake}
 use Rattle.changes.specs.Delete.{deleteRefusal, deleteAnswer, deleteWords}
 
 -- a refusal by number n of what answers r and leaves the words t′ of t
@@ -27,23 +26,14 @@ pub record ChangeAccepts (v : VersionRecord) (k : ℕ) (r : Placed) : Type 0 whe
   pub active : v .active ≡ true
 
 module _ (t : List ℤ) (v : VersionRecord) (key1 key2 total1 total2 : ℤ) where
-  pub insert-refuses : (n : ℕ) → insertRefusal t v key1 key2 total1 total2 ≡ suc n
-      → ChangeRefuses (suc n) t (insertAnswer t v key1 key2 total1 total2) (insertWords t v key1 key2 total1 total2)
-  unfolding insertAnswer insertWords
-  insert-refuses n h = record { answer = rw h; words = rw h }
+  pub put-refuses : (n : ℕ) → putRefusal t v key1 key2 total1 total2 ≡ suc n
+      → ChangeRefuses (suc n) t (putAnswer t v key1 key2 total1 total2) (putWords t v key1 key2 total1 total2)
+  unfolding putAnswer putWords
+  put-refuses n h = record { answer = rw h; words = rw h }
 
-  pub insert-accepts : insertRefusal t v key1 key2 total1 total2 ≡ 0 → ChangeAccepts v (insertSlot t v key1 key2) (insertAnswer t v key1 key2 total1 total2)
-  unfolding insertRefusal insertAnswer
-  insert-accepts h = record { answer = rw h; active = not-no (none _ tt h 8) }
-
-  pub update-refuses : (n : ℕ) → updateRefusal t v key1 key2 total1 total2 ≡ suc n
-      → ChangeRefuses (suc n) t (updateAnswer t v key1 key2 total1 total2) (updateWords t v key1 key2 total1 total2)
-  unfolding updateAnswer updateWords
-  update-refuses n h = record { answer = rw h; words = rw h }
-
-  pub update-accepts : updateRefusal t v key1 key2 total1 total2 ≡ 0 → ChangeAccepts v (keySlot t key1 key2) (updateAnswer t v key1 key2 total1 total2)
-  unfolding updateRefusal updateAnswer
-  update-accepts h = record { answer = rw h; active = not-no (none _ tt h 8) }
+  pub put-accepts : putRefusal t v key1 key2 total1 total2 ≡ 0 → ChangeAccepts v (slotToTake t v key1 key2) (putAnswer t v key1 key2 total1 total2)
+  unfolding putRefusal putAnswer
+  put-accepts h = record { answer = rw h; active = not-no (none _ tt h 8) }
 
 module _ (t : List ℤ) (v : VersionRecord) (key1 key2 : ℤ) where
   pub delete-refuses : (n : ℕ) → deleteRefusal t v key1 key2 ≡ suc n → ChangeRefuses (suc n) t (deleteAnswer t v key1 key2) (deleteWords t v key1 key2)

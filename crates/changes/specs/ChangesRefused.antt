@@ -23,7 +23,7 @@ use Rattle.table_forms.specs.Operations.{live}
 use Rattle.table_forms.specs.Totals.{unlawful}
 use Rattle.table_forms.specs.Formed.{wellFormed, broken}
 use Rattle.table_forms.specs.FormedLaws.{dead-deleted}
-use Rattle.table_keys.specs.Keys.{keySlot, keyed, keyLive}
+use Rattle.table_keys.specs.Keys.{keySlot, keyed}
 use Rattle.table_free.specs.Free.{free, freeSlot}
 use Rattle.table_free.specs.FreeLaws.{freeSlot-is, busy}
 use Rattle.reads.specs.Table1.{shown, currentRow, oldRow}
@@ -31,9 +31,9 @@ use Rattle.reads.specs.Table1Laws.{shown-current, shown-removed}
 use Rattle.changes.specs.Effects.{run-within}
 use Rattle.changes.specs.Whole.{Whole}
 use Rattle.changes.specs.ChangeTests.{runningTests}
-use Rattle.changes_rows.specs.RowTests.{insertSlot, noSlot, notLive}
-use Rattle.changes.specs.Insert.{insertRefusal}
-use Rattle.changes.specs.Update.{updateRefusal}
+use Rattle.changes_rows.specs.PutRow.{slotToTake, noSlot}
+use Rattle.changes_rows.specs.DeleteRow.{notLive}
+use Rattle.changes.specs.Put.{putRefusal}
 use Rattle.changes.specs.Delete.{deleteRefusal}
 
 module _ (t : List ℤ) (v : VersionRecord) (whole : Whole t v) (known : badRecord v ≡ false) (active : v .active ≡ true) where
@@ -44,14 +44,10 @@ module _ (t : List ℤ) (v : VersionRecord) (whole : Whole t v) (known : badReco
   past6 : (key1 key2 : ℤ) (l : List (Bool × ℕ)) → first ((broken (keyed t key1 key2) v, 6) ∷ l) ≡ first l
   past6 key1 key2 l = skip 6 l (ap not (whole .formed (keySlot t key1 key2)))
 
-  pub insert-refused : (key1 key2 total1 total2 : ℤ)
-      → insertRefusal t v key1 key2 total1 total2 ≡ first ((unlawful total1 total2, 13) ∷ (keyLive t key1 key2, 10) ∷ (noSlot t v key1 key2, 12) ∷ [])
-  unfolding insertRefusal
-  insert-refused key1 key2 total1 total2 = past8 _ ∙ under _ _ _ (past6 key1 key2 _)
-
-  pub update-refused : (key1 key2 total1 total2 : ℤ) → updateRefusal t v key1 key2 total1 total2 ≡ first ((unlawful total1 total2, 13) ∷ (notLive t key1 key2, 11) ∷ [])
-  unfolding updateRefusal
-  update-refused key1 key2 total1 total2 = past8 _ ∙ under _ _ _ (past6 key1 key2 _)
+  pub put-refused : (key1 key2 total1 total2 : ℤ)
+      → putRefusal t v key1 key2 total1 total2 ≡ first ((unlawful total1 total2, 13) ∷ (noSlot t v key1 key2, 12) ∷ [])
+  unfolding putRefusal
+  put-refused key1 key2 total1 total2 = past8 _ ∙ under _ _ _ (past6 key1 key2 _)
 
   pub delete-refused : (key1 key2 : ℤ) → deleteRefusal t v key1 key2 ≡ first ((notLive t key1 key2, 11) ∷ [])
   unfolding deleteRefusal
@@ -64,7 +60,7 @@ module _ (t : List ℤ) (v : VersionRecord) (whole : Whole t v) (known : badReco
 
   pub full : (key1 key2 : ℤ) → noSlot t v key1 key2 ≡ true → NoSlotLeft key1 key2
   full key1 key2 h =
-      let none : ltb (insertSlot t v key1 key2) (slots t) ≡ false = not-yes h in
+      let none : ltb (slotToTake t v key1 key2) (slots t) ≡ false = not-yes h in
       by-test (ltb (keySlot t key1 key2) (slots t))
       (λ y. clash h (rw (y, y) refl))
       (λ n. record {
@@ -94,13 +90,9 @@ module _ (t : List ℤ) (v : VersionRecord) (shape : badTable t ≡ false) (know
   given8 : (l : List (Bool × ℕ)) → first (runningTests t v ++ l) ≡ 8
   given8 l = skip 1 _ shape ∙ skip 2 _ known ∙ hit _ (ap not no-run)
 
-  pub insert-idle : (key1 key2 total1 total2 : ℤ) → insertRefusal t v key1 key2 total1 total2 ≡ 8
-  unfolding insertRefusal
-  insert-idle key1 key2 total1 total2 = given8 _
-
-  pub update-idle : (key1 key2 total1 total2 : ℤ) → updateRefusal t v key1 key2 total1 total2 ≡ 8
-  unfolding updateRefusal
-  update-idle key1 key2 total1 total2 = given8 _
+  pub put-idle : (key1 key2 total1 total2 : ℤ) → putRefusal t v key1 key2 total1 total2 ≡ 8
+  unfolding putRefusal
+  put-idle key1 key2 total1 total2 = given8 _
 
   pub delete-idle : (key1 key2 : ℤ) → deleteRefusal t v key1 key2 ≡ 8
   unfolding deleteRefusal

@@ -14,11 +14,11 @@ use Rattle.changes_rows.specs.declared.Placed.{Placed}
 use Rattle.changes_rows.specs.declared.Placed.the-variants.{InSlot, Refused}
 use Rattle.changes_cells.specs.Tables.{deleted}
 use Rattle.changes.specs.ChangeTests.{runningTests}
-use Rattle.changes_rows.specs.RowTests.{changeTests}
+use Rattle.changes_rows.specs.DeleteRow.{deleteRowTests}
 
 -- Delete: 1, 2, 8, 6, 11
 abbrev pub deleteTests : List ℤ → VersionRecord → ℤ → ℤ → List (Bool × ℕ)
-deleteTests t v key1 key2 = runningTests t v ++ changeTests t v key1 key2
+deleteTests t v key1 key2 = runningTests t v ++ deleteRowTests t v key1 key2
 
 unfoldable pub deleteRefusal : List ℤ → VersionRecord → ℤ → ℤ → ℕ
 deleteRefusal t v key1 key2 = first (deleteTests t v key1 key2)
@@ -31,7 +31,7 @@ deleteAnswer t v key1 key2 = unless (deleteRefusal t v key1 key2) Refused (InSlo
 unfoldable pub deleteWords : List ℤ → VersionRecord → ℤ → ℤ → List ℤ
 deleteWords t v key1 key2 =
     unless (deleteRefusal t v key1 key2) (λ n. t)
-    (putSlot t (keySlot t key1 key2) (deleted (runNumber v) (keyed t key1 key2)))
+    (putSlot t (keySlot t key1 key2) (deleted (runNumber v) (keyed t key1 key2) key1 key2))
 
 -- the contract, and that it allows one outcome
 pub record DeleteContract (t : List ℤ) (v : VersionRecord) (key1 key2 : ℤ) (r : Placed) (t′ : List ℤ) : Type 0 where

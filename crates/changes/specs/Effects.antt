@@ -68,7 +68,7 @@ module _ (v : VersionRecord) (known : badRecord v ≡ false) (active : v .active
     own-live : live x ≡ true → Own key1 key2 (shown (runNumber v) x)
     own-live l = own-row x k (shown-current (runNumber v) x (run-within u) l)
 
-    -- ---- update
+    -- ---- a put of a live key
     module _ (total1 total2 : ℤ) (g : Given total1 total2) (l : live x ≡ true) where
       pub save-effect : leZ (x .run) (v .current) ≡ true → Effect v x (saved (runNumber v) x total1 total2) key1 key2 (Row key1 key2 total1 total2)
       save-effect h =
@@ -126,7 +126,7 @@ module _ (v : VersionRecord) (known : badRecord v ≡ false) (active : v .active
           key = inr (search);
         }
 
-    -- ---- insert, where this run deleted the row
+    -- ---- a put where this run deleted the row
     pub restore-effect : (total1 total2 : ℤ) → Given total1 total2 → leZ (x .run) (v .current) ≡ false → x .operation ≡ deleteOperation
         → Effect v x (restored x total1 total2) key1 key2 (Row key1 key2 total1 total2)
     restore-effect total1 total2 g h e =
@@ -139,7 +139,7 @@ module _ (v : VersionRecord) (known : badRecord v ≡ false) (active : v .active
           key = inr (search);
         }
 
-  -- ---- insert, where neither version shows the slot
+  -- ---- a put where neither version shows the slot
   pub insert-effect : (x : Slot) (key1 key2 total1 total2 : ℤ) → Given total1 total2 → shown (v .current) x ≡ NoRow → shown (runNumber v) x ≡ NoRow
       → Effect v x (newInsert (runNumber v) key1 key2 total1 total2) key1 key2 (Row key1 key2 total1 total2)
   insert-effect x key1 key2 total1 total2 g low high =

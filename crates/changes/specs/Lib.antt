@@ -6,7 +6,6 @@ pub mod ChangeOutcomes
 pub mod Places
 pub mod ChangeTests
 pub mod RunningLaws
-pub mod Insert
-pub mod Update
+pub mod Put
 pub mod Delete
 pub mod PlacedLaws

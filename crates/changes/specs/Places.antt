@@ -1,5 +1,5 @@
--- A change answers the number of a slot that the table has, whatever its words: for an insert by refusal 12, for an update and a
--- delete because the key is live. There are at most 1,024 slots. Assumes nothing.
+-- A change answers the number of a slot that the table has, whatever its words: for a put by refusal 12, for a delete because the
+-- key is live. There are at most 1,024 slots. Assumes nothing.
 use mathlib.Core.Path.{_≡_, refl}
 use mathlib.Core.Bool.{false}
 use mathlib.Core.List.{List}
@@ -15,10 +15,9 @@ use Rattle.table.specs.SlotLaws.{lengths}
 use Rattle.table_keys.specs.KeyLaws.{live-placed}
 use Rattle.changes_rows.specs.declared.Placed.{Placed}
 use Rattle.changes_rows.specs.declared.Placed.the-variants.{InSlot}
-use Rattle.changes.specs.Insert.{insertRefusal, insertAnswer}
-use Rattle.changes.specs.Update.{updateRefusal, updateAnswer}
+use Rattle.changes.specs.Put.{putRefusal, putAnswer}
 use Rattle.changes.specs.Delete.{deleteRefusal, deleteAnswer}
-use Rattle.changes.specs.ChangeOutcomes.{ChangeRefuses, ChangeAccepts, insert-refuses, insert-accepts, update-refuses, update-accepts, delete-refuses, delete-accepts}
+use Rattle.changes.specs.ChangeOutcomes.{ChangeRefuses, ChangeAccepts, put-refuses, put-accepts, delete-refuses, delete-accepts}
 use Rattle.changes_rows.specs.PlacedNumbers.{Numbers, slot, refusal}
 
 pub slot-low : {k : ℕ} → Numbers (InSlot k) → k < mostSlots
@@ -33,17 +32,11 @@ numbers {n = suc m} refuses accepts low = rw (refuses m refl .answer) refusal
 low : (t : List ℤ) (k : ℕ) → badTable t ≡ false → k < slots t → k < mostSlots
 low t k h l = let few = lengths t h .few in omega arith
 
-pub insert-numbers : (t : List ℤ) (v : VersionRecord) (key1 key2 total1 total2 : ℤ) → Numbers (insertAnswer t v key1 key2 total1 total2)
-unfolding insertRefusal
-insert-numbers t v key1 key2 total1 total2 =
-    numbers {n = insertRefusal t v key1 key2 total1 total2} (insert-refuses t v key1 key2 total1 total2) (insert-accepts t v key1 key2 total1 total2)
+pub put-numbers : (t : List ℤ) (v : VersionRecord) (key1 key2 total1 total2 : ℤ) → Numbers (putAnswer t v key1 key2 total1 total2)
+unfolding putRefusal
+put-numbers t v key1 key2 total1 total2 =
+    numbers {n = putRefusal t v key1 key2 total1 total2} (put-refuses t v key1 key2 total1 total2) (put-accepts t v key1 key2 total1 total2)
     (λ h. let no = none _ tt h in low t _ (no 1) (ltb-true _ _ (not-no (no 12))))
-
-pub update-numbers : (t : List ℤ) (v : VersionRecord) (key1 key2 total1 total2 : ℤ) → Numbers (updateAnswer t v key1 key2 total1 total2)
-unfolding updateRefusal
-update-numbers t v key1 key2 total1 total2 =
-    numbers {n = updateRefusal t v key1 key2 total1 total2} (update-refuses t v key1 key2 total1 total2) (update-accepts t v key1 key2 total1 total2)
-    (λ h. let no = none _ tt h in low t _ (no 1) (live-placed t key1 key2 (no 1) (not-no (no 11))))
 
 pub delete-numbers : (t : List ℤ) (v : VersionRecord) (key1 key2 : ℤ) → Numbers (deleteAnswer t v key1 key2)
 unfolding deleteRefusal

@@ -1,9 +1,8 @@
--- Where the tests that every change begins with pass, a run is active. Assumes nothing.
+-- Where the tests that every change begins with pass, the table and the record are sound. Assumes nothing.
 use mathlib.Core.Path.{_≡_}
-use mathlib.Core.Bool.{true, false}
+use mathlib.Core.Bool.{false}
 use mathlib.Core.List.{List}
 use lib.IntN.{ℤ}
-use Rattle.laws.specs.TestLaws.{not-no}
 use Rattle.laws.specs.FirstLaws.{none}
 use Rattle.versions.specs.declared.VersionRecord.{VersionRecord}
 use Rattle.versions.specs.Record.{badRecord}
@@ -14,10 +13,9 @@ use Rattle.changes.specs.ChangeTests.{runningRefusal}
 pub record Running (t : List ℤ) (v : VersionRecord) : Type 0 where
   pub table : badTable t ≡ false
   pub known : badRecord v ≡ false
-  pub active : v .active ≡ true
 
 pub running : (t : List ℤ) (v : VersionRecord) → runningRefusal t v ≡ 0 → Running t v
 unfolding runningRefusal
 running t v h =
     let no = none _ tt h in
-    record { table = no 1; known = no 2; active = not-no (no 8) }
+    record { table = no 1; known = no 2 }

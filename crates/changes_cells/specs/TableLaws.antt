@@ -6,42 +6,43 @@ use lib.Signed.{ltZ}
 use Rattle.table.specs.declared.Slot.{Slot}
 use Rattle.table.specs.Slots.{empty}
 use Rattle.table_forms.specs.Operations.{insertOperation, updateOperation, deleteOperation, live}
-use Rattle.table_forms.specs.OperationLaws.{live-cases, column-empty, column-insert, column-update, column-delete}
-use Rattle.changes_cells.specs.Tables.{newInsert, restored, saved, corrected, removed, marked, changed, inserted, updated, deleted}
+use Rattle.table_forms.specs.OperationLaws.{live-cases, dead-empty, dead-delete, column-empty, column-insert, column-update, column-delete}
+use Rattle.changes_cells.specs.Tables.{newInsert, restored, saved, corrected, removed, marked, changed, putOver, deleted}
 
--- ---- insert. No slot for the key; key's slot deleted, older run; deleted by this run
-pub inserted-new : (m key1 key2 total1 total2 : ℤ) → ltZ (pos 0) m ≡ true → inserted m empty key1 key2 total1 total2 ≡ newInsert m key1 key2 total1 total2
-unfolding changed
-inserted-new m key1 key2 total1 total2 h = rw (h, column-empty empty refl) refl
+module _ (m key1 key2 : ℤ) where
+  -- ---- a put of a key that is not live. No slot for the key; key's slot deleted, older run; deleted by this run
+  pub put-new : (total1 total2 : ℤ) → ltZ (pos 0) m ≡ true → putOver m empty key1 key2 total1 total2 ≡ newInsert m key1 key2 total1 total2
+  unfolding changed
+  put-new total1 total2 h = rw (dead-empty, h, column-empty empty refl) refl
 
-pub inserted-older : (m : ℤ) (x : Slot) (key1 key2 total1 total2 : ℤ) → ltZ (x .run) m ≡ true → x .operation ≡ deleteOperation
-    → inserted m x key1 key2 total1 total2 ≡ newInsert m key1 key2 total1 total2
-unfolding changed
-inserted-older m x key1 key2 total1 total2 h e = rw (h, column-delete x e) refl
+  module _ (x : Slot) (total1 total2 : ℤ) (e : x .operation ≡ deleteOperation) where
+    pub put-deleted-older : ltZ (x .run) m ≡ true → putOver m x key1 key2 total1 total2 ≡ newInsert m key1 key2 total1 total2
+    unfolding changed
+    put-deleted-older h = rw (dead-delete x e, h, column-delete x e) refl
 
-pub inserted-same : (m : ℤ) (x : Slot) (key1 key2 total1 total2 : ℤ) → ltZ (x .run) m ≡ false → x .operation ≡ deleteOperation
-    → inserted m x key1 key2 total1 total2 ≡ restored x total1 total2
-unfolding changed
-inserted-same m x key1 key2 total1 total2 h e = rw (h, column-delete x e) refl
+    pub put-deleted-same : ltZ (x .run) m ≡ false → putOver m x key1 key2 total1 total2 ≡ restored x total1 total2
+    unfolding changed
+    put-deleted-same h = rw (dead-delete x e, h, column-delete x e) refl
 
--- ---- update. Older run; this run
-pub updated-older : (m : ℤ) (x : Slot) (a b : ℤ) → ltZ (x .run) m ≡ true → live x ≡ true → updated m x a b ≡ saved m x a b
-unfolding changed
-updated-older m x a b h l = live-cases x l (λ e. rw (h, column-insert x e) refl) (λ e. rw (h, column-update x e) refl)
+  -- ---- of a live key. Older run; this run
+  module _ (x : Slot) (total1 total2 : ℤ) (l : live x ≡ true) where
+    pub put-live-older : ltZ (x .run) m ≡ true → putOver m x key1 key2 total1 total2 ≡ saved m x total1 total2
+    unfolding changed
+    put-live-older h = live-cases x l (λ e. rw (l, h, column-insert x e) refl) (λ e. rw (l, h, column-update x e) refl)
 
-pub updated-same : (m : ℤ) (x : Slot) (a b : ℤ) → ltZ (x .run) m ≡ false → live x ≡ true → updated m x a b ≡ corrected x a b
-unfolding changed
-updated-same m x a b h l = live-cases x l (λ e. rw (h, column-insert x e) refl) (λ e. rw (h, column-update x e) refl)
+    pub put-live-same : ltZ (x .run) m ≡ false → putOver m x key1 key2 total1 total2 ≡ corrected x total1 total2
+    unfolding changed
+    put-live-same h = live-cases x l (λ e. rw (l, h, column-insert x e) refl) (λ e. rw (l, h, column-update x e) refl)
 
--- ---- delete. Older run; this run, inserted; this run, updated
-pub deleted-older : (m : ℤ) (x : Slot) → ltZ (x .run) m ≡ true → live x ≡ true → deleted m x ≡ removed m x
-unfolding changed
-deleted-older m x h l = live-cases x l (λ e. rw (h, column-insert x e) refl) (λ e. rw (h, column-update x e) refl)
+  -- ---- delete. Older run; this run, inserted; this run, updated
+  pub deleted-older : (x : Slot) → live x ≡ true → ltZ (x .run) m ≡ true → deleted m x key1 key2 ≡ removed m x
+  unfolding changed
+  deleted-older x l h = live-cases x l (λ e. rw (h, column-insert x e) refl) (λ e. rw (h, column-update x e) refl)
 
-pub deleted-insert : (m : ℤ) (x : Slot) → ltZ (x .run) m ≡ false → x .operation ≡ insertOperation → deleted m x ≡ empty
-unfolding changed
-deleted-insert m x h e = rw (h, column-insert x e) refl
+  pub deleted-insert : (x : Slot) → x .operation ≡ insertOperation → ltZ (x .run) m ≡ false → deleted m x key1 key2 ≡ empty
+  unfolding changed
+  deleted-insert x e h = rw (h, column-insert x e) refl
 
-pub deleted-update : (m : ℤ) (x : Slot) → ltZ (x .run) m ≡ false → x .operation ≡ updateOperation → deleted m x ≡ marked x
-unfolding changed
-deleted-update m x h e = rw (h, column-update x e) refl
+  pub deleted-update : (x : Slot) → x .operation ≡ updateOperation → ltZ (x .run) m ≡ false → deleted m x key1 key2 ≡ marked x
+  unfolding changed
+  deleted-update x e h = rw (h, column-update x e) refl

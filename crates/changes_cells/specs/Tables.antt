@@ -1,5 +1,6 @@
--- Tables 2, 3 and 4 of RULES.md (The decision tables, What a change writes): what an insert, an update and a delete write on a
--- slot, chosen by older or same run and by operation. Only this crate unfolds `changed`. Assumes nothing.
+-- Tables 2, 3 and 4 of RULES.md (The decision tables, What a change writes): what a put and a delete write on a slot, chosen by
+-- older or same run and by operation. Only this crate unfolds `changed`. Assumes nothing.
+use mathlib.Core.Bool.{cond}
 use mathlib.Core.List.{List, [], _∷_}
 use Prim.Native.Nat.{ℕ}
 use lib.IntN.{ℤ, pos}
@@ -8,9 +9,9 @@ use lib.ListN.{getD}
 use Rattle.laws.specs.Cells.{cellAt}
 use Rattle.table.specs.declared.Slot.{Slot}
 use Rattle.table.specs.Slots.{empty}
-use Rattle.table_forms.specs.Operations.{insertOperation, updateOperation, deleteOperation, column}
+use Rattle.table_forms.specs.Operations.{insertOperation, updateOperation, deleteOperation, column, live}
 
--- ---- what a change leaves of the slot x, by run m, with the totals a and b given
+-- ---- what a change leaves of the slot x, by run m, with the totals that are given
 -- old totals 0, current totals given, m, insert
 abbrev pub newInsert : ℤ → ℤ → ℤ → ℤ → ℤ → Slot
 newInsert m key1 key2 total1 total2 =
@@ -81,12 +82,12 @@ written cell m x key1 key2 total1 total2 =
 
 -- ---- the tables. The first row is that of an older run, the second that of this run; the
 -- columns are empty, insert, update, delete. A key with no slot has the empty one, whose run number 0 is older
--- Table 2, insert; its empty column is that of a key without a slot
+-- Table 2, a put of a key that is not live; its empty column is that of a key without a slot
 abbrev pub table2 : List ℕ
 table2 = toInsert ∷ impossible ∷ impossible ∷ toInsert
     ∷ impossible ∷ impossible ∷ impossible ∷ toRestore ∷ []
 
--- Table 3, update
+-- Table 3, a put of a live key
 abbrev pub table3 : List ℕ
 table3 = impossible ∷ toSave ∷ toSave ∷ impossible
     ∷ impossible ∷ toCorrect ∷ toCorrect ∷ impossible ∷ []
@@ -96,16 +97,18 @@ abbrev pub table4 : List ℕ
 table4 = impossible ∷ toRemove ∷ toRemove ∷ impossible
     ∷ impossible ∷ toErase ∷ toMark ∷ impossible ∷ []
 
--- what run m leaves of x by a decision table, for the key one and two and the totals a and b
+-- what run m leaves of x by a decision table, for the key and the totals that are given
 unfoldable pub changed : List ℕ → ℤ → Slot → ℤ → ℤ → ℤ → ℤ → Slot
 changed table m x key1 key2 total1 total2 = written (cellAt table (ltZ (x .run) m) (column x)) m x key1 key2 total1 total2
 
-abbrev pub inserted : ℤ → Slot → ℤ → ℤ → ℤ → ℤ → Slot
-inserted m x key1 key2 total1 total2 = changed table2 m x key1 key2 total1 total2
+-- a put of a live key goes by Table 3, of any other by Table 2
+abbrev pub putTable : Slot → List ℕ
+putTable x = cond (live x) table3 table2
 
-abbrev pub updated : ℤ → Slot → ℤ → ℤ → Slot
-updated m x total1 total2 = changed table3 m x (x .key1) (x .key2) total1 total2
+-- what a put by run m leaves of x
+abbrev pub putOver : ℤ → Slot → ℤ → ℤ → ℤ → ℤ → Slot
+putOver m x key1 key2 total1 total2 = changed (putTable x) m x key1 key2 total1 total2
 
--- a delete gives no totals
-abbrev pub deleted : ℤ → Slot → Slot
-deleted m x = changed table4 m x (x .key1) (x .key2) (pos 0) (pos 0)
+-- what a delete by run m leaves of x; it gives no totals, and no cell of Table 4 writes the key
+abbrev pub deleted : ℤ → Slot → ℤ → ℤ → Slot
+deleted m x key1 key2 = changed table4 m x key1 key2 (pos 0) (pos 0)

@@ -1,5 +1,8 @@
-pub mod PlacedNumbers
 pub mod ChangeLeaves
-pub mod Looked
-pub mod RowTests
+pub mod PutRow
+pub mod PutParts
+pub mod PutPartLaws
+pub mod DeleteRow
 pub mod LeavesLaws
+pub mod Looked
+pub mod PlacedNumbers

@@ -42,7 +42,7 @@ fn main() {
     let mut table = [0i64; 64];
     let begun = reader::begin_by_value(VersionRecord::fresh());
     let running = begun.versions;
-    reader::insert(&mut table, running, 1, 19961014, 10000, 0);
+    reader::put(&mut table, running, 1, 19961014, 10000, 0);
     let committed = reader::commit_by_value(running);
     let versions = committed.versions;
     let seen = reader::read_key(&table, versions, 2, 1, 19961014);

@@ -7,7 +7,7 @@ use Prim.Native.Nat.{ℕ}
 use lib.IntN.{ℤ, pos, negsuc}
 use Rattle.versions.specs.declared.VersionRecord.{VersionRecord}
 use Rattle.table.specs.Slots.{freshTable}
-use Rattle.calls.specs.Calls.{Call, begin, commit, readSlot, readKey, rollUp, insert, update, delete}
+use Rattle.calls.specs.Calls.{Call, begin, commit, readSlot, readKey, rollUp, put, delete}
 
 pub record Case : Type 0 where
   pub words : List ℤ
@@ -122,9 +122,9 @@ figure5 = record {
   words = figure4;
   versions = idleAt 4;
   calls = begin
-      ∷ insert (pos 1) (pos 19961016) (pos 11000) (pos 0)
-      ∷ insert (pos 3) (pos 19961013) (pos 6000) (pos 0)
-      ∷ update (pos 1) (pos 19961014) (pos 10200) (pos 0)
+      ∷ put (pos 1) (pos 19961016) (pos 11000) (pos 0)
+      ∷ put (pos 3) (pos 19961013) (pos 6000) (pos 0)
+      ∷ put (pos 1) (pos 19961014) (pos 10200) (pos 0)
       ∷ delete (pos 2) (pos 19961014)
       ∷ [];
   numbers = version 5 ∷ at 3 ∷ at 4 ∷ at 0 ∷ at 2 ∷ [];
@@ -136,49 +136,49 @@ figure5 = record {
   versions-after = runningAt 4;
 }
 
--- insert then update in one run stays insert
-abbrev pub insertThenUpdate : Case
-insertThenUpdate = record {
+-- two puts of a new key in one run stay an insert
+abbrev pub newKeyPutTwice : Case
+newKeyPutTwice = record {
   words = zeros;
   versions = idleAt 1;
-  calls = begin ∷ insert (pos 1) (pos 19961014) (pos 10000) (pos 0) ∷ update (pos 1) (pos 19961014) (pos 10200) (pos 0)
+  calls = begin ∷ put (pos 1) (pos 19961014) (pos 10000) (pos 0) ∷ put (pos 1) (pos 19961014) (pos 10200) (pos 0)
       ∷ readKey (pos 1) (pos 1) (pos 19961014) ∷ [];
   numbers = version 2 ∷ at 0 ∷ at 0 ∷ none ∷ [];
   words-after = slot 2 1 1 19961014 10200 0;
   versions-after = runningAt 1;
 }
 
--- delete then insert in one run is update
-abbrev pub deleteThenInsert : Case
-deleteThenInsert = record {
+-- delete then put in one run is update
+abbrev pub deleteThenPut : Case
+deleteThenPut = record {
   words = slot 2 1 1 19961014 10000 0;
   versions = idleAt 2;
-  calls = begin ∷ delete (pos 1) (pos 19961014) ∷ insert (pos 1) (pos 19961014) (pos 7000) (pos 0)
+  calls = begin ∷ delete (pos 1) (pos 19961014) ∷ put (pos 1) (pos 19961014) (pos 7000) (pos 0)
       ∷ readKey (pos 2) (pos 1) (pos 19961014) ∷ [];
   numbers = version 3 ∷ at 0 ∷ at 0 ∷ row 1 19961014 10000 ∷ [];
   words-after = slot 3 2 1 19961014 7000 10000;
   versions-after = runningAt 2;
 }
 
--- insert then delete of a new key leaves zeros
-abbrev pub insertThenDelete : Case
-insertThenDelete = record {
+-- put then delete of a new key leaves zeros
+abbrev pub newKeyDeleted : Case
+newKeyDeleted = record {
   words = zeros;
   versions = idleAt 1;
-  calls = begin ∷ insert (pos 1) (pos 19961014) (pos 10000) (pos 0) ∷ delete (pos 1) (pos 19961014) ∷ [];
+  calls = begin ∷ put (pos 1) (pos 19961014) (pos 10000) (pos 0) ∷ delete (pos 1) (pos 19961014) ∷ [];
   numbers = version 2 ∷ at 0 ∷ at 0 ∷ [];
   words-after = zeros;
   versions-after = runningAt 1;
 }
 
--- one slot, its key live at the last commit and deleted by this run: insert of another key is refused 12; in the next run it
+-- one slot, its key live at the last commit and deleted by this run: a put of another key is refused 12; in the next run it
 -- is accepted
 abbrev pub oneSlot : Case
 oneSlot = record {
   words = slot 2 1 1 19961014 10000 0;
   versions = idleAt 2;
-  calls = begin ∷ delete (pos 1) (pos 19961014) ∷ insert (pos 2) (pos 19961014) (pos 500) (pos 0)
-      ∷ commit ∷ begin ∷ insert (pos 2) (pos 19961014) (pos 500) (pos 0) ∷ [];
+  calls = begin ∷ delete (pos 1) (pos 19961014) ∷ put (pos 2) (pos 19961014) (pos 500) (pos 0)
+      ∷ commit ∷ begin ∷ put (pos 2) (pos 19961014) (pos 500) (pos 0) ∷ [];
   numbers = version 3 ∷ at 0 ∷ changeRefused 12 ∷ version 3 ∷ version 4 ∷ at 0 ∷ [];
   words-after = slot 4 1 2 19961014 500 0;
   versions-after = runningAt 3;
@@ -189,11 +189,11 @@ abbrev pub totals : Case
 totals = record {
   words = zeros;
   versions = runningAt 1;
-  calls = insert (pos 1) (pos 19961014) (pos 1000000000000000) (pos 0)
-      ∷ update (pos 1) (pos 19961014) (pos 1000000000000001) (pos 0)
-      ∷ update (pos 1) (pos 19961014) (negsuc 999999999999999) (pos 1000000000000000)
-      ∷ update (pos 1) (pos 19961014) (negsuc 1000000000000000) (pos 0)
-      ∷ update (pos 1) (pos 19961014) (pos 0) (pos 1000000000000001)
+  calls = put (pos 1) (pos 19961014) (pos 1000000000000000) (pos 0)
+      ∷ put (pos 1) (pos 19961014) (pos 1000000000000001) (pos 0)
+      ∷ put (pos 1) (pos 19961014) (negsuc 999999999999999) (pos 1000000000000000)
+      ∷ put (pos 1) (pos 19961014) (negsuc 1000000000000000) (pos 0)
+      ∷ put (pos 1) (pos 19961014) (pos 0) (pos 1000000000000001)
       ∷ [];
   numbers = at 0 ∷ changeRefused 13 ∷ at 0 ∷ changeRefused 13 ∷ changeRefused 13 ∷ [];
   words-after = pos 2 ∷ pos 1 ∷ pos 1 ∷ pos 19961014 ∷ negsuc 999999999999999 ∷ pos 1000000000000000 ∷ pos 0 ∷ pos 0 ∷ [];
@@ -205,7 +205,7 @@ abbrev pub correctedTwice : Case
 correctedTwice = record {
   words = slot 2 1 1 19961014 10000 0;
   versions = idleAt 2;
-  calls = begin ∷ update (pos 1) (pos 19961014) (pos 10200) (pos 0) ∷ update (pos 1) (pos 19961014) (pos 10300) (pos 0)
+  calls = begin ∷ put (pos 1) (pos 19961014) (pos 10200) (pos 0) ∷ put (pos 1) (pos 19961014) (pos 10300) (pos 0)
       ∷ readKey (pos 2) (pos 1) (pos 19961014) ∷ rollUp (pos 2) (pos 1) ∷ commit ∷ readKey (pos 3) (pos 1) (pos 19961014) ∷ [];
   numbers = version 3 ∷ at 0 ∷ at 0 ∷ row 1 19961014 10000 ∷ sums 1 10000 ∷ version 3 ∷ row 1 19961014 10300 ∷ [];
   words-after = slot 3 2 1 19961014 10300 10000;
@@ -220,9 +220,9 @@ cases =
     ∷ rollUps
     ∷ afterBegin
     ∷ figure5
-    ∷ insertThenUpdate
-    ∷ deleteThenInsert
-    ∷ insertThenDelete
+    ∷ newKeyPutTwice
+    ∷ deleteThenPut
+    ∷ newKeyDeleted
     ∷ oneSlot
     ∷ totals
     ∷ correctedTwice

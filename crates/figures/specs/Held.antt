@@ -23,13 +23,12 @@ use Rattle.reads.specs.ReadSlot.{readSlotRefusal, readSlotAnswer}
 use Rattle.reads.specs.ReadKey.{readKeyRefusal, readKeyAnswer}
 use Rattle.reads_roll_up.specs.RollUp.{rollUpRefusal, rollUpAnswer}
 use Rattle.changes_cells.specs.Tables.{changed}
-use Rattle.changes.specs.Insert.{insertRefusal, insertAnswer, insertWords}
-use Rattle.changes.specs.Update.{updateRefusal, updateAnswer, updateWords}
+use Rattle.changes.specs.Put.{putRefusal, putAnswer, putWords}
 use Rattle.changes.specs.Delete.{deleteRefusal, deleteAnswer, deleteWords}
 use Rattle.calls.specs.Seen.{Seen}
 use Rattle.calls.specs.Seen as seen
 use Rattle.calls.specs.Rolled as rolled
-use Rattle.calls.specs.Calls.{Call, begin, commit, insert, update, delete, readKey, rollUp}
+use Rattle.calls.specs.Calls.{Call, begin, commit, put, delete, readKey, rollUp}
 use Rattle.calls.specs.Calls as answer
 use Rattle.history.specs.Databases.{found, rolledUp}
 use Rattle.history.specs.Followed.{databaseAt}
@@ -37,26 +36,26 @@ use Rattle.history.specs.Kinds.{World, freshWorld, after, answerOf}
 use Rattle.history.specs.Demand.{IsGone, KeyRead, RegionRead, Full}
 use Rattle.history.specs.TwoVersions.{twoVersions}
 
--- run 2 inserts the row (1, 14), and what comes then
+-- run 2 puts the row (1, 14) in, and what comes then
 abbrev withRow : List Call → World twoVersions
-withRow h = after {K = twoVersions} h (after {K = twoVersions} (begin ∷ insert (pos 1) (pos 14) (pos 100) (pos 5) ∷ commit ∷ begin ∷ []) (freshWorld twoVersions 1))
+withRow h = after {K = twoVersions} h (after {K = twoVersions} (begin ∷ put (pos 1) (pos 14) (pos 100) (pos 5) ∷ commit ∷ begin ∷ []) (freshWorld twoVersions 1))
 
 -- run 3 corrects it twice
 abbrev correctedTwice : World twoVersions
-correctedTwice = withRow (update (pos 1) (pos 14) (pos 110) (pos 5) ∷ update (pos 1) (pos 14) (pos 120) (pos 5) ∷ [])
+correctedTwice = withRow (put (pos 1) (pos 14) (pos 110) (pos 5) ∷ put (pos 1) (pos 14) (pos 120) (pos 5) ∷ [])
 
--- run 3 deletes it and inserts it again
-abbrev deletedInserted : World twoVersions
-deletedInserted = withRow (delete (pos 1) (pos 14) ∷ insert (pos 1) (pos 14) (pos 130) (pos 5) ∷ [])
+-- run 3 deletes it and puts it in again
+abbrev deletedPut : World twoVersions
+deletedPut = withRow (delete (pos 1) (pos 14) ∷ put (pos 1) (pos 14) (pos 130) (pos 5) ∷ [])
 
 -- run 3 deletes it, and another key finds no slot
 abbrev deletedAnother : World twoVersions
-deletedAnother = withRow (delete (pos 1) (pos 14) ∷ insert (pos 2) (pos 14) (pos 300) (pos 0) ∷ [])
+deletedAnother = withRow (delete (pos 1) (pos 14) ∷ put (pos 2) (pos 14) (pos 300) (pos 0) ∷ [])
 
--- run 2 inserts a row and corrects it
-abbrev insertedCorrected : World twoVersions
-insertedCorrected =
-    after {K = twoVersions} (begin ∷ insert (pos 1) (pos 14) (pos 100) (pos 5) ∷ update (pos 1) (pos 14) (pos 110) (pos 5) ∷ []) (freshWorld twoVersions 1)
+-- run 2 puts a row in and corrects it
+abbrev putCorrected : World twoVersions
+putCorrected =
+    after {K = twoVersions} (begin ∷ put (pos 1) (pos 14) (pos 100) (pos 5) ∷ put (pos 1) (pos 14) (pos 110) (pos 5) ∷ []) (freshWorld twoVersions 1)
 
 -- a field is shown by what both sides of it come to
 read-as : (w : World twoVersions) (s : ℕ) (key1 key2 : ℤ) (r : Seen) → (IsGone w s → ⊥) → answerOf (readKey (pos s) key1 key2) w ≡ answer.seen r
@@ -66,10 +65,10 @@ read-as w s key1 key2 r open-still got shown = record { gone = λ h. absurd (ope
 pub record Held : Type 0 where
   -- 1. a session at 2 reads the row as it was before run 3, however often that corrects it
   pub corrected-twice : KeyRead correctedTwice 2 (pos 1) (pos 14)
-  -- 2. a session at 1 reads no row of a key that run 2 inserted and corrected
-  pub inserted-corrected : KeyRead insertedCorrected 1 (pos 1) (pos 14)
-  -- 3. a session at 2 keeps the row that run 3 deleted and inserted again
-  pub deleted-inserted : KeyRead deletedInserted 2 (pos 1) (pos 14)
+  -- 2. a session at 1 reads no row of a key that run 2 put in and corrected
+  pub put-corrected : KeyRead putCorrected 1 (pos 1) (pos 14)
+  -- 3. a session at 2 keeps the row that run 3 deleted and put in again
+  pub deleted-put : KeyRead deletedPut 2 (pos 1) (pos 14)
   -- 4. a slot that run 3 deleted is still a session's: there is no room for another key, and the session reads its row
   pub no-room : Full 1 (withRow (delete (pos 1) (pos 14) ∷ [])) (pos 2) (pos 14) (pos 300) (pos 0)
   pub deleted-another : KeyRead deletedAnother 2 (pos 1) (pos 14)
@@ -80,7 +79,7 @@ pub record Held : Type 0 where
 
 -- the roll-up stands apart, so that a build that breaks a read of a key is refused there too
 summed : RegionRead correctedTwice 2 (pos 1)
-unfolding all any first lowest some badRecord unborn expired beginRefusal beginAnswer beginRecord commitRefusal commitAnswer commitRecord badTable slotAt putSlot column live lawful unlawful allZeros totalsLawful usedWell wellFormed anyBroken hasKey keySlot longDeleted free freeSlot shown readSlotRefusal readSlotAnswer rollUpRefusal rollUpAnswer changed insertRefusal insertAnswer insertWords updateRefusal updateAnswer updateWords deleteRefusal deleteAnswer deleteWords readKeyRefusal readKeyAnswer
+unfolding all any first lowest some badRecord unborn expired beginRefusal beginAnswer beginRecord commitRefusal commitAnswer commitRecord badTable slotAt putSlot column live lawful unlawful allZeros totalsLawful usedWell wellFormed anyBroken hasKey keySlot longDeleted free freeSlot shown readSlotRefusal readSlotAnswer rollUpRefusal rollUpAnswer changed putRefusal putAnswer putWords deleteRefusal deleteAnswer deleteWords readKeyRefusal readKeyAnswer
 summed = record { gone = λ h. absurd (omega arith); kept = λ still. got ∙ ap answer.rolled (sym sums) }
   where
     got : answerOf {K = twoVersions} (rollUp (pos 2) (pos 1)) correctedTwice ≡ answer.rolled (rolled.Sums 1 (pos 100) (pos 5))
@@ -90,11 +89,11 @@ summed = record { gone = λ h. absurd (omega arith); kept = λ still. got ∙ ap
     sums = refl
 
 pub held : Held
-unfolding all any first lowest some badRecord unborn expired beginRefusal beginAnswer beginRecord commitRefusal commitAnswer commitRecord badTable slotAt putSlot column live lawful unlawful allZeros totalsLawful usedWell wellFormed anyBroken hasKey keySlot longDeleted free freeSlot shown readSlotRefusal readSlotAnswer rollUpRefusal rollUpAnswer changed insertRefusal insertAnswer insertWords updateRefusal updateAnswer updateWords deleteRefusal deleteAnswer deleteWords readKeyRefusal readKeyAnswer
+unfolding all any first lowest some badRecord unborn expired beginRefusal beginAnswer beginRecord commitRefusal commitAnswer commitRecord badTable slotAt putSlot column live lawful unlawful allZeros totalsLawful usedWell wellFormed anyBroken hasKey keySlot longDeleted free freeSlot shown readSlotRefusal readSlotAnswer rollUpRefusal rollUpAnswer changed putRefusal putAnswer putWords deleteRefusal deleteAnswer deleteWords readKeyRefusal readKeyAnswer
 held = record {
   corrected-twice = read-as correctedTwice 2 (pos 1) (pos 14) (seen.Row (pos 1) (pos 14) (pos 100) (pos 5)) (λ h. omega arith) refl refl;
-  inserted-corrected = read-as insertedCorrected 1 (pos 1) (pos 14) seen.NoRow (λ h. omega arith) refl refl;
-  deleted-inserted = read-as deletedInserted 2 (pos 1) (pos 14) (seen.Row (pos 1) (pos 14) (pos 100) (pos 5)) (λ h. omega arith) refl refl;
+  put-corrected = read-as putCorrected 1 (pos 1) (pos 14) seen.NoRow (λ h. omega arith) refl refl;
+  deleted-put = read-as deletedPut 2 (pos 1) (pos 14) (seen.Row (pos 1) (pos 14) (pos 100) (pos 5)) (λ h. omega arith) refl refl;
   no-room = record { full = λ f. refl; room = λ room. absurd (room (refl, refl)) };
   deleted-another = read-as deletedAnother 2 (pos 1) (pos 14) (seen.Row (pos 1) (pos 14) (pos 100) (pos 5)) (λ h. omega arith) refl refl;
   gone = record { gone = λ h. refl; kept = λ still. absurd (still (omega arith)) };

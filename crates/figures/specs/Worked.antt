@@ -28,12 +28,11 @@ use Rattle.reads.specs.ReadKey.{readKeyRefusal, readKeyAnswer}
 use Rattle.reads_roll_up.specs.RollUp.{rollUpRefusal, rollUpAnswer}
 use Rattle.changes_rows.specs.declared.Placed.the-variants as placed
 use Rattle.changes_cells.specs.Tables.{changed}
-use Rattle.changes.specs.Insert.{insertRefusal, insertAnswer, insertWords}
-use Rattle.changes.specs.Update.{updateRefusal, updateAnswer, updateWords}
+use Rattle.changes.specs.Put.{putRefusal, putAnswer, putWords}
 use Rattle.changes.specs.Delete.{deleteRefusal, deleteAnswer, deleteWords}
 use Rattle.blocks.specs.declared.Loaded.the-variants as loaded
 use Rattle.blocks.specs.LoadBlock.{loadBlockRefusal, loadBlockAnswer, loadBlockWords}
-use Rattle.calls.specs.Calls.{Call, begin, commit, insert, update, delete, readSlot, readKey, rollUp, loadBlock}
+use Rattle.calls.specs.Calls.{Call, begin, commit, put, delete, readSlot, readKey, rollUp, loadBlock}
 use Rattle.calls.specs.Calls as answer
 use Rattle.history.specs.Databases.{Row, row, gives}
 use Rattle.history.specs.Followed.{databaseAt, running, Committed}
@@ -52,14 +51,14 @@ first-row = row (pos 1) (pos 14) (pos 100) (pos 0)
 abbrev second-row : Row
 second-row = row (pos 1) (pos 15) (pos 200) (pos 0)
 
--- a load of no bytes is refused; run 2 inserts the two rows, and an insert of a key that is live is refused
+-- a load of no bytes is refused; run 2 puts the two rows in, and a delete of a key that is absent is refused
 abbrev run2 : List Call
 run2 =
     loadBlock 1 []
     ∷ begin
-    ∷ insert (pos 1) (pos 14) (pos 100) (pos 0)
-    ∷ insert (pos 1) (pos 15) (pos 200) (pos 0)
-    ∷ insert (pos 1) (pos 14) (pos 300) (pos 0)
+    ∷ put (pos 1) (pos 14) (pos 100) (pos 0)
+    ∷ put (pos 1) (pos 15) (pos 200) (pos 0)
+    ∷ delete (pos 2) (pos 14)
     ∷ []
 
 abbrev in2 : TwoWorld
@@ -70,7 +69,7 @@ at2 = after {K = twoVersions} (commit ∷ []) in2
 
 -- run 3 corrects the first twice and deletes the second
 abbrev run3 : List Call
-run3 = begin ∷ update (pos 1) (pos 14) (pos 110) (pos 0) ∷ update (pos 1) (pos 14) (pos 120) (pos 0) ∷ delete (pos 1) (pos 15) ∷ []
+run3 = begin ∷ put (pos 1) (pos 14) (pos 110) (pos 0) ∷ put (pos 1) (pos 14) (pos 120) (pos 0) ∷ delete (pos 1) (pos 15) ∷ []
 
 abbrev in3 : TwoWorld
 in3 = after {K = twoVersions} run3 at2
@@ -84,8 +83,8 @@ abbrev turns : List (Turn twoVersions)
 turns =
     mine 0
     ∷ other begin
-    ∷ other (update (pos 1) (pos 14) (pos 110) (pos 0))
-    ∷ other (update (pos 1) (pos 14) (pos 120) (pos 0))
+    ∷ other (put (pos 1) (pos 14) (pos 110) (pos 0))
+    ∷ other (put (pos 1) (pos 14) (pos 120) (pos 0))
     ∷ other (delete (pos 1) (pos 15))
     ∷ other commit
     ∷ mine 1
@@ -106,10 +105,9 @@ pub record Worked : Type 0 where
   -- no block is loaded: the load is refused
   pub load-refused : answerOf (loadBlock 1 []) (freshWorld twoVersions 2) ≡ answer.loaded (loaded.Refused 14)
   pub no-load : NoLoad run2 (freshWorld twoVersions 2)
-  -- changes that are refused: of a live key, of an absent one, with totals out of range, and with no run
-  pub live : answerOf {K = twoVersions} (insert (pos 1) (pos 14) (pos 300) (pos 0)) in2 ≡ answer.placed (placed.Refused 10)
-  pub absent : answerOf {K = twoVersions} (update (pos 2) (pos 14) (pos 300) (pos 0)) in3 ≡ answer.placed (placed.Refused 11)
-  pub out-of-range : answerOf {K = twoVersions} (update (pos 1) (pos 14) (pos 0) (pos 1000000000000001)) in3 ≡ answer.placed (placed.Refused 13)
+  -- changes that are refused: a delete of an absent key, a put of totals out of range, and a delete with no run
+  pub absent : answerOf {K = twoVersions} (delete (pos 2) (pos 14)) in2 ≡ answer.placed (placed.Refused 11)
+  pub out-of-range : answerOf {K = twoVersions} (put (pos 1) (pos 14) (pos 0) (pos 1000000000000001)) in3 ≡ answer.placed (placed.Refused 13)
   pub no-run : answerOf {K = twoVersions} (delete (pos 1) (pos 14)) at2 ≡ answer.placed (placed.Refused 8)
   -- versions 1 and 2 are committed; version 2 is not gone in run 3, and gone in run 4
   pub committed-first : Committed (at2 .told) 1
@@ -124,22 +122,22 @@ pub record Worked : Type 0 where
   -- in run 3 a key read and the region's roll-up at version 2 answer what they did
   pub key : answerOf {K = twoVersions} (readKey (pos 2) (pos 1) (pos 14)) in3 ≡ answer.seen (seen.Row (pos 1) (pos 14) (pos 100) (pos 0))
   pub region : answerOf {K = twoVersions} (rollUp (pos 2) (pos 1)) in3 ≡ answer.rolled (rolled.Sums 2 (pos 300) (pos 0))
-  -- there the two databases together hold both keys, and a third is refused as full
+  -- there the two databases together hold both keys: a third is refused as full, and one that is live is accepted
   pub is-full : IsFull 2 in3 (pos 2) (pos 14)
-  pub full : answerOf {K = twoVersions} (insert (pos 2) (pos 14) (pos 300) (pos 0)) in3 ≡ answer.placed (placed.Refused 12)
+  pub full : answerOf {K = twoVersions} (put (pos 2) (pos 14) (pos 300) (pos 0)) in3 ≡ answer.placed (placed.Refused 12)
+  pub live : answerOf {K = twoVersions} (put (pos 1) (pos 14) (pos 300) (pos 0)) in3 ≡ answer.placed (placed.InSlot 0)
   -- once run 4 has begun, session 2 is expired, and the third key takes slot 1
   pub expired-then : answerOf {K = twoVersions} (readSlot (pos 2) 0) in4 ≡ answer.seen (seen.Refused 4)
-  pub reused : answerOf {K = twoVersions} (insert (pos 2) (pos 14) (pos 300) (pos 0)) in4 ≡ answer.placed (placed.InSlot 1)
+  pub reused : answerOf {K = twoVersions} (put (pos 2) (pos 14) (pos 300) (pos 0)) in4 ≡ answer.placed (placed.InSlot 1)
 
 pub worked : Worked
-unfolding all any first lowest some badRecord unborn expired beginRefusal beginAnswer beginRecord commitRefusal commitAnswer commitRecord badTable slotAt putSlot column live lawful unlawful allZeros totalsLawful usedWell wellFormed anyBroken hasKey keySlot longDeleted free freeSlot shown readSlotRefusal readSlotAnswer rollUpRefusal rollUpAnswer changed insertRefusal insertAnswer insertWords updateRefusal updateAnswer updateWords deleteRefusal deleteAnswer deleteWords readKeyRefusal readKeyAnswer loadBlockRefusal loadBlockAnswer loadBlockWords
+unfolding all any first lowest some badRecord unborn expired beginRefusal beginAnswer beginRecord commitRefusal commitAnswer commitRecord badTable slotAt putSlot column live lawful unlawful allZeros totalsLawful usedWell wellFormed anyBroken hasKey keySlot longDeleted free freeSlot shown readSlotRefusal readSlotAnswer rollUpRefusal rollUpAnswer changed putRefusal putAnswer putWords deleteRefusal deleteAnswer deleteWords readKeyRefusal readKeyAnswer loadBlockRefusal loadBlockAnswer loadBlockWords
 worked = record {
   told = refl;
   database = refl;
   running-then = refl;
   load-refused = refl;
   no-load = (refl, (refl, (refl, (refl, (refl, tt)))));
-  live = refl;
   absent = refl;
   out-of-range = refl;
   no-run = refl;
@@ -159,6 +157,7 @@ worked = record {
   region = refl;
   is-full = (refl, refl);
   full = refl;
+  live = refl;
   expired-then = refl;
   reused = refl;
 }

@@ -43,13 +43,13 @@ pub record Reads {K : Kind} (T : View) (place : ℤ → ℤ → ℕ) (m : ℕ) (
   pub slot-shown : {s : ℕ} → Committed (w .told) s → (IsGone w s → ⊥) → (k : ℕ) → k < m
       → answerOf (K .readSlot (pos s) k) w ≡ answer.seen (T .shown s k)
 
--- ---- what changes of a world answer: 8 with no run; in a run 13, and else by whether the key's place shows a row at the run's number
+-- ---- what changes of a world answer: 8 with no run; in a run a put 13, or by whether there is room, and a delete by whether the
+-- key's place shows a row at the run's number
 abbrev pub liveAt : {K : Kind} → View → (ℤ → ℤ → ℕ) → World K → ℤ → ℤ → Bool
 liveAt T place w key1 key2 = shows (T .shown (suc (current (w .told))) (place key1 key2))
 
 pub record Idle {K : Kind} (w : World K) (key1 key2 : ℤ) : Type 0 where
-  pub insert : (total1 total2 : ℤ) → answerOf (K .insert key1 key2 total1 total2) w ≡ answer.placed (placed.Refused 8)
-  pub update : (total1 total2 : ℤ) → answerOf (K .update key1 key2 total1 total2) w ≡ answer.placed (placed.Refused 8)
+  pub put : (total1 total2 : ℤ) → answerOf (K .put key1 key2 total1 total2) w ≡ answer.placed (placed.Refused 8)
   pub delete : answerOf (K .delete key1 key2) w ≡ answer.placed (placed.Refused 8)
 
 -- a slot may be taken exactly when no open version and not the run shows a row of it
@@ -60,15 +60,9 @@ pub record Rooms {K : Kind} (T : View) (m : ℕ) (w : World K) (free : ℕ → B
       → (shows (T .shown (suc (current (w .told))) j) ≡ true) ⊎ ((s : ℕ) × Committed (w .told) s × (IsGone w s → ⊥) × (shows (T .shown s j) ≡ true))
 
 pub record InRun {K : Kind} (T : View) (place : ℤ → ℤ → ℕ) (m : ℕ) (w : World K) (free : ℕ → Bool) (key1 key2 : ℤ) : Type 0 where
-  pub insert-unlawful : (total1 total2 : ℤ) → unlawful total1 total2 ≡ true → answerOf (K .insert key1 key2 total1 total2) w ≡ answer.placed (placed.Refused 13)
-  pub update-unlawful : (total1 total2 : ℤ) → unlawful total1 total2 ≡ true → answerOf (K .update key1 key2 total1 total2) w ≡ answer.placed (placed.Refused 13)
-  pub insert-live : (total1 total2 : ℤ) → unlawful total1 total2 ≡ false → liveAt T place w key1 key2 ≡ true → answerOf (K .insert key1 key2 total1 total2) w ≡ answer.placed (placed.Refused 10)
-  pub insert-full : (total1 total2 : ℤ) → unlawful total1 total2 ≡ false → liveAt T place w key1 key2 ≡ false → NoRoom T m free key1 key2
-      → answerOf (K .insert key1 key2 total1 total2) w ≡ answer.placed (placed.Refused 12)
-  pub insert-room : (total1 total2 : ℤ) → unlawful total1 total2 ≡ false → liveAt T place w key1 key2 ≡ false → (NoRoom T m free key1 key2 → ⊥)
-      → accepted (answerOf (K .insert key1 key2 total1 total2) w) ≡ true
-  pub update-live : (total1 total2 : ℤ) → unlawful total1 total2 ≡ false → liveAt T place w key1 key2 ≡ true → accepted (answerOf (K .update key1 key2 total1 total2) w) ≡ true
-  pub update-absent : (total1 total2 : ℤ) → unlawful total1 total2 ≡ false → liveAt T place w key1 key2 ≡ false → answerOf (K .update key1 key2 total1 total2) w ≡ answer.placed (placed.Refused 11)
+  pub put-unlawful : (total1 total2 : ℤ) → unlawful total1 total2 ≡ true → answerOf (K .put key1 key2 total1 total2) w ≡ answer.placed (placed.Refused 13)
+  pub put-full : (total1 total2 : ℤ) → unlawful total1 total2 ≡ false → NoRoom T m free key1 key2 → answerOf (K .put key1 key2 total1 total2) w ≡ answer.placed (placed.Refused 12)
+  pub put-room : (total1 total2 : ℤ) → unlawful total1 total2 ≡ false → (NoRoom T m free key1 key2 → ⊥) → accepted (answerOf (K .put key1 key2 total1 total2) w) ≡ true
   pub delete-live : liveAt T place w key1 key2 ≡ true → accepted (answerOf (K .delete key1 key2) w) ≡ true
   pub delete-absent : liveAt T place w key1 key2 ≡ false → answerOf (K .delete key1 key2) w ≡ answer.placed (placed.Refused 11)
 

@@ -28,9 +28,9 @@ use Rattle.reads.specs.Table1Laws.{shown-current, shown-deleted, shown-empty}
 use Rattle.changes.specs.Effects.{run-within}
 use Rattle.changes.specs.ChangesAccepted.{free-unseen}
 use Rattle.changes.specs.ChangesRefused as refused
-use Rattle.changes.specs.ChangesRefused.{busy-seen, insert-refused, update-refused, delete-refused, insert-idle, update-idle, delete-idle}
-use Rattle.changes.specs.ChangeOutcomes.{insert-refuses, insert-accepts, update-refuses, update-accepts, delete-refuses, delete-accepts}
-use Rattle.changes_rows.specs.RowTests.{noSlot}
+use Rattle.changes.specs.ChangesRefused.{busy-seen, put-refused, delete-refused, put-idle, delete-idle}
+use Rattle.changes.specs.ChangeOutcomes.{put-refuses, put-accepts, delete-refuses, delete-accepts}
+use Rattle.changes_rows.specs.PutRow.{noSlot}
 use Rattle.calls.specs.Calls as answer
 use Rattle.history.specs.Followed.{current}
 use Rattle.history.specs.Kinds.{accepted}
@@ -53,8 +53,7 @@ idle m w i no-run key1 key2 =
     let known = i .sound .recorded .known in
     let e = i .sound .recorded .active ∙ no-run in
     record {
-      insert = λ a b. ap answer.placed (insert-refuses _ _ key1 key2 a b 7 (insert-idle _ _ shape known e key1 key2 a b) .answer);
-      update = λ a b. ap answer.placed (update-refuses _ _ key1 key2 a b 7 (update-idle _ _ shape known e key1 key2 a b) .answer);
+      put = λ a b. ap answer.placed (put-refuses _ _ key1 key2 a b 7 (put-idle _ _ shape known e key1 key2 a b) .answer);
       delete = ap answer.placed (delete-refuses _ _ key1 key2 7 (delete-idle _ _ shape known e key1 key2) .answer);
     }
 
@@ -117,20 +116,13 @@ module _ (m : ℕ) (w : TableWorld) (i : Well m w) (a : w .told .active ≡ true
       let known = recorded .known in
       let live = live-is key1 key2 in
       record {
-        insert-unlawful = λ x y bad. ap answer.placed (insert-refuses _ _ key1 key2 x y 12 (insert-refused _ _ whole known runs key1 key2 x y ∙ hit _ bad) .answer);
-        update-unlawful = λ x y bad. ap answer.placed (update-refuses _ _ key1 key2 x y 12 (update-refused _ _ whole known runs key1 key2 x y ∙ hit _ bad) .answer);
-        insert-live = λ x y lawful h. ap answer.placed
-            (insert-refuses _ _ key1 key2 x y 9 (insert-refused _ _ whole known runs key1 key2 x y ∙ skip 13 _ lawful ∙ hit _ (live ∙ h)) .answer);
-        insert-full = λ x y lawful h r. ap answer.placed
-            (insert-refuses _ _ key1 key2 x y 11 (insert-refused _ _ whole known runs key1 key2 x y ∙ skip 13 _ lawful ∙ skip 10 _ (live ∙ h) ∙ hit _ (no-slot key1 key2 r)) .answer);
-        insert-room = λ x y lawful h room. ap (λ p. accepted (answer.placed p))
-            (insert-accepts _ _ key1 key2 x y
-            (insert-refused _ _ whole known runs key1 key2 x y ∙ skip 13 _ lawful ∙ skip 10 _ (live ∙ h)
+        put-unlawful = λ x y bad. ap answer.placed (put-refuses _ _ key1 key2 x y 12 (put-refused _ _ whole known runs key1 key2 x y ∙ hit _ bad) .answer);
+        put-full = λ x y lawful r. ap answer.placed
+            (put-refuses _ _ key1 key2 x y 11 (put-refused _ _ whole known runs key1 key2 x y ∙ skip 13 _ lawful ∙ hit _ (no-slot key1 key2 r)) .answer);
+        put-room = λ x y lawful room. ap (λ p. accepted (answer.placed p))
+            (put-accepts _ _ key1 key2 x y
+            (put-refused _ _ whole known runs key1 key2 x y ∙ skip 13 _ lawful
             ∙ skip 12 _ (by-test (noSlot t v key1 key2) (λ z. absurd (room (no-room key1 key2 z))) (λ n. n)) ∙ done) .answer);
-        update-live = λ x y lawful h. ap (λ p. accepted (answer.placed p))
-            (update-accepts _ _ key1 key2 x y (update-refused _ _ whole known runs key1 key2 x y ∙ skip 13 _ lawful ∙ skip 11 _ (ap not (live ∙ h)) ∙ done) .answer);
-        update-absent = λ x y lawful h. ap answer.placed
-            (update-refuses _ _ key1 key2 x y 10 (update-refused _ _ whole known runs key1 key2 x y ∙ skip 13 _ lawful ∙ hit _ (ap not (live ∙ h))) .answer);
         delete-live = λ h. ap (λ p. accepted (answer.placed p))
             (delete-accepts _ _ key1 key2 (delete-refused _ _ whole known runs key1 key2 ∙ skip 11 _ (ap not (live ∙ h)) ∙ done) .answer);
         delete-absent = λ h. ap answer.placed (delete-refuses _ _ key1 key2 10 (delete-refused _ _ whole known runs key1 key2 ∙ hit _ (ap not (live ∙ h))) .answer);

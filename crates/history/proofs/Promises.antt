@@ -92,24 +92,18 @@ module _ {K : Kind} (A : Argument K) where
 
   module _ (m : ℕ) (w : World K) (i : Well A m w) where
     fullness : Fullness m w
-    fullness a key1 key2 x y lawful absent =
+    fullness a key1 key2 x y lawful =
         let r = A .in-run m w i a key1 key2 in
-        let dead = live-held m w i a key1 key2 ∙ absent in
         record {
-          full = λ f. r .insert-full x y lawful dead (full-none m w i a key1 key2 f);
-          room = λ room. r .insert-room x y lawful dead (λ none. room (none-full m w i a key1 key2 none));
+          full = λ f. r .put-full x y lawful (full-none m w i a key1 key2 f);
+          room = λ room. r .put-room x y lawful (λ none. room (none-full m w i a key1 key2 none));
         }
 
     changes : (key1 key2 : ℤ) → Changes w key1 key2
     changes key1 key2 = record {
-      insert-idle = λ idle. A .idle m w i idle key1 key2 .insert;
-      update-idle = λ idle. A .idle m w i idle key1 key2 .update;
+      put-idle = λ idle. A .idle m w i idle key1 key2 .put;
       delete-idle = λ idle. A .idle m w i idle key1 key2 .delete;
-      insert-unlawful = λ a. A .in-run m w i a key1 key2 .insert-unlawful;
-      update-unlawful = λ a. A .in-run m w i a key1 key2 .update-unlawful;
-      insert-live = λ a x y lawful held. A .in-run m w i a key1 key2 .insert-live x y lawful (live-held m w i a key1 key2 ∙ held);
-      update-live = λ a x y lawful held. A .in-run m w i a key1 key2 .update-live x y lawful (live-held m w i a key1 key2 ∙ held);
-      update-absent = λ a x y lawful held. A .in-run m w i a key1 key2 .update-absent x y lawful (live-held m w i a key1 key2 ∙ held);
+      put-unlawful = λ a. A .in-run m w i a key1 key2 .put-unlawful;
       delete-live = λ a held. A .in-run m w i a key1 key2 .delete-live (live-held m w i a key1 key2 ∙ held);
       delete-absent = λ a held. A .in-run m w i a key1 key2 .delete-absent (live-held m w i a key1 key2 ∙ held);
     }

@@ -14,10 +14,10 @@ use Rattle.versions_runs.specs.RunLaws.{TurnRefuses, TurnAccepts, begin-refuses
 use Rattle.versions_runs.specs.Runs.{beginRefusal, commitRefusal}
 use Rattle.reads.specs.declared.Seen.{Seen}
 use Rattle.changes_rows.specs.declared.Placed.{Placed}
-use Rattle.changes.specs.ChangesAccepted.{Came, refuses, accepts, insert-came, update-came, delete-came}
+use Rattle.changes.specs.ChangesAccepted.{Came, refuses, accepts, put-came, delete-came}
 use Rattle.blocks.specs.ContractLaws as load
 use Rattle.blocks.specs.LoadBlock.{loadBlockRefusal}
-use Rattle.calls.specs.Calls.{Call, openSession, begin, commit, readSlot, readKey, rollUp, insert, update, delete, saveHeader, saveBlock, loadHeader, loadBlock}
+use Rattle.calls.specs.Calls.{Call, openSession, begin, commit, readSlot, readKey, rollUp, put, delete, saveHeader, saveBlock, loadHeader, loadBlock}
 use Rattle.calls.specs.Calls as answer
 use Rattle.calls.specs.Perform.{withWords, withVersion}
 use Rattle.history.specs.Databases.{without, Change, changed, rowsOf}
@@ -99,8 +99,7 @@ module _ (m : ℕ) (w : TableWorld) (i : Well m w) where
   next-step (readSlot s k) no-load = quiet _ refl refl refl
   next-step (readKey s key1 key2) no-load = quiet _ refl refl refl
   next-step (rollUp s key1) no-load = quiet _ refl refl refl
-  next-step (insert key1 key2 total1 total2) no-load = change _ key1 key2 _ _ _ refl (insert-came _ _ key1 key2 total1 total2 (i .sound .whole) (i .inv .distinct .slot))
-  next-step (update key1 key2 total1 total2) no-load = change _ key1 key2 _ _ _ refl (update-came _ _ key1 key2 total1 total2 (i .sound .whole) (i .inv .distinct .slot))
+  next-step (put key1 key2 total1 total2) no-load = change _ key1 key2 _ _ _ refl (put-came _ _ key1 key2 total1 total2 (i .sound .whole) (i .inv .distinct .slot))
   next-step (delete key1 key2) no-load = change _ key1 key2 _ _ _ refl (delete-came _ _ key1 key2 (i .sound .whole) (i .inv .distinct .slot))
   next-step saveHeader no-load = quiet _ refl refl refl
   next-step (saveBlock k) no-load = quiet _ refl refl refl

@@ -80,8 +80,8 @@ module _ {K : Kind} where
   abbrev pub Sessions : ℕ → World K → Type 0
   Sessions m w = (s : ℕ) → Committed (w .told) s → (turns : List (Turn K)) → ReadsEach m w s turns → Perm (rowsGot (answersGot s turns w)) (databaseAt (w .told) s)
 
-  -- ---- during a run, an insert of a key not live, totals lawful, is refused as full exactly when the databases of the open
-  -- versions and the running one together hold as many keys as there are slots, this key in none; and else it is accepted
+  -- ---- during a run, a put with lawful totals is refused as full exactly when the databases of the open versions and the running
+  -- one together hold as many keys as there are slots, this key in none; and else it is accepted
   abbrev pub heldInRun : World K → Database
   heldInRun w = allTogether (map (databaseAt (w .told)) (openVersions (K .keeps) (w .told))) (running (w .told))
 
@@ -89,26 +89,18 @@ module _ {K : Kind} where
   IsFull m w key1 key2 = (length (heldInRun w) ≡ m) × (holds key1 key2 (heldInRun w) ≡ false)
 
   pub record Full (m : ℕ) (w : World K) (key1 key2 total1 total2 : ℤ) : Type 0 where
-    pub full : IsFull m w key1 key2 → answerOf (K .insert key1 key2 total1 total2) w ≡ answer.placed (placed.Refused refusal.tableFull)
-    pub room : (IsFull m w key1 key2 → ⊥) → accepted (answerOf (K .insert key1 key2 total1 total2) w) ≡ true
+    pub full : IsFull m w key1 key2 → answerOf (K .put key1 key2 total1 total2) w ≡ answer.placed (placed.Refused refusal.tableFull)
+    pub room : (IsFull m w key1 key2 → ⊥) → accepted (answerOf (K .put key1 key2 total1 total2) w) ≡ true
 
   abbrev pub Fullness : ℕ → World K → Type 0
-  Fullness m w = w .told .active ≡ true → (key1 key2 total1 total2 : ℤ) → unlawful total1 total2 ≡ false → holds key1 key2 (running (w .told)) ≡ false → Full m w key1 key2 total1 total2
+  Fullness m w = w .told .active ≡ true → (key1 key2 total1 total2 : ℤ) → unlawful total1 total2 ≡ false → Full m w key1 key2 total1 total2
 
-  -- ---- changes: with no run active every one is refused 8; during a run totals that are not lawful are refused 13, an update or
-  -- a delete is accepted exactly when its key is in the running database, and else refused 11, and an insert of such a key is refused 10
+  -- ---- changes: with no run active every one is refused 8; during a run a put of totals that are not lawful is refused 13, and a
+  -- delete is accepted exactly when its key is in the running database, and else refused 11
   pub record Changes (w : World K) (key1 key2 : ℤ) : Type 0 where
-    pub insert-idle : w .told .active ≡ false → (total1 total2 : ℤ) → answerOf (K .insert key1 key2 total1 total2) w ≡ answer.placed (placed.Refused refusal.noRun)
-    pub update-idle : w .told .active ≡ false → (total1 total2 : ℤ) → answerOf (K .update key1 key2 total1 total2) w ≡ answer.placed (placed.Refused refusal.noRun)
+    pub put-idle : w .told .active ≡ false → (total1 total2 : ℤ) → answerOf (K .put key1 key2 total1 total2) w ≡ answer.placed (placed.Refused refusal.noRun)
     pub delete-idle : w .told .active ≡ false → answerOf (K .delete key1 key2) w ≡ answer.placed (placed.Refused refusal.noRun)
-    pub insert-unlawful : w .told .active ≡ true → (total1 total2 : ℤ) → unlawful total1 total2 ≡ true → answerOf (K .insert key1 key2 total1 total2) w ≡ answer.placed (placed.Refused refusal.badTotal)
-    pub update-unlawful : w .told .active ≡ true → (total1 total2 : ℤ) → unlawful total1 total2 ≡ true → answerOf (K .update key1 key2 total1 total2) w ≡ answer.placed (placed.Refused refusal.badTotal)
-    pub insert-live : w .told .active ≡ true → (total1 total2 : ℤ) → unlawful total1 total2 ≡ false → holds key1 key2 (running (w .told)) ≡ true
-        → answerOf (K .insert key1 key2 total1 total2) w ≡ answer.placed (placed.Refused refusal.keyLive)
-    pub update-live : w .told .active ≡ true → (total1 total2 : ℤ) → unlawful total1 total2 ≡ false → holds key1 key2 (running (w .told)) ≡ true
-        → accepted (answerOf (K .update key1 key2 total1 total2) w) ≡ true
-    pub update-absent : w .told .active ≡ true → (total1 total2 : ℤ) → unlawful total1 total2 ≡ false → holds key1 key2 (running (w .told)) ≡ false
-        → answerOf (K .update key1 key2 total1 total2) w ≡ answer.placed (placed.Refused refusal.keyNotLive)
+    pub put-unlawful : w .told .active ≡ true → (total1 total2 : ℤ) → unlawful total1 total2 ≡ true → answerOf (K .put key1 key2 total1 total2) w ≡ answer.placed (placed.Refused refusal.badTotal)
     pub delete-live : w .told .active ≡ true → holds key1 key2 (running (w .told)) ≡ true → accepted (answerOf (K .delete key1 key2) w) ≡ true
     pub delete-absent : w .told .active ≡ true → holds key1 key2 (running (w .told)) ≡ false → answerOf (K .delete key1 key2) w ≡ answer.placed (placed.Refused refusal.keyNotLive)
 

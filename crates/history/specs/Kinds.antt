@@ -30,8 +30,7 @@ pub record Kind : Type 1 where
   pub readSlot : ℤ → ℕ → Call
   pub readKey : ℤ → ℤ → ℤ → Call
   pub rollUp : ℤ → ℤ → Call
-  pub insert : ℤ → ℤ → ℤ → ℤ → Call
-  pub update : ℤ → ℤ → ℤ → ℤ → Call
+  pub put : ℤ → ℤ → ℤ → ℤ → Call
   pub delete : ℤ → ℤ → Call
 
 -- ---- a call is accepted if its refusal number is 0

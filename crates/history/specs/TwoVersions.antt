@@ -6,7 +6,7 @@ use mathlib.Core.List.{List, [], _∷_}
 use Prim.Native.Nat.{ℕ}
 use lib.ListN.{take}
 use Rattle.calls.specs.Terms.{freshRecord, freshTable}
-use Rattle.calls.specs.Calls.{Call, openSession, begin, commit, readSlot, readKey, rollUp, insert, update, delete, saveHeader, saveBlock, loadHeader, loadBlock, Answer}
+use Rattle.calls.specs.Calls.{Call, openSession, begin, commit, readSlot, readKey, rollUp, put, delete, saveHeader, saveBlock, loadHeader, loadBlock, Answer}
 use Rattle.calls.specs.Perform.{State, perform}
 use Rattle.history.specs.Databases.{Change, gives, takesOut}
 use Rattle.history.specs.Followed.{current, openVersions, Heard, wentIn, nothing, beganRun, committedRun, loadedBlock}
@@ -27,8 +27,7 @@ heardFrom commit a = ifAccepted a committedRun
 heardFrom (readSlot s k) a = nothing
 heardFrom (readKey s key1 key2) a = nothing
 heardFrom (rollUp s key1) a = nothing
-heardFrom (insert key1 key2 x y) a = heardChanges a (gives key1 key2 x y ∷ [])
-heardFrom (update key1 key2 x y) a = heardChanges a (gives key1 key2 x y ∷ [])
+heardFrom (put key1 key2 x y) a = heardChanges a (gives key1 key2 x y ∷ [])
 heardFrom (delete key1 key2) a = heardChanges a (takesOut key1 key2 ∷ [])
 heardFrom saveHeader a = nothing
 heardFrom (saveBlock k) a = nothing
@@ -54,8 +53,7 @@ twoVersions = record {
   readSlot = readSlot;
   readKey = readKey;
   rollUp = rollUp;
-  insert = insert;
-  update = update;
+  put = put;
   delete = delete;
 }
 

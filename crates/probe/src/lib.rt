@@ -3,7 +3,7 @@
 // into eight, a saved block into 512 bytes, and each of these is written whole.
 ghost use mathlib.Core.Path.{_≡_};
 ghost use mathlib.Core.List.{[]};
-ghost use Rattle.calls.specs.Calls.{openSession, begin, commit, readSlot, readKey, rollUp, insert, update, delete, saveHeader, saveBlock, loadHeader, loadBlock};
+ghost use Rattle.calls.specs.Calls.{openSession, begin, commit, readSlot, readKey, rollUp, put, delete, saveHeader, saveBlock, loadHeader, loadBlock};
 ghost use Rattle.probe.specs.Probed.{lent, outAfter, tableAfter, recordAfter, blockAfter};
 
 mod lent;
@@ -100,9 +100,9 @@ pub extern "C" fn probe_roll_up(
     );
 }
 
-// insert: the slot
+// put: the slot
 #[no_mangle]
-pub extern "C" fn probe_insert(
+pub extern "C" fn probe_put(
     table: &mut [i64],
     record_words: &[i64; 4],
     key1: i64,
@@ -111,39 +111,12 @@ pub extern "C" fn probe_insert(
     total2: i64,
     out: &mut [i64; 8],
 )
-    ensures { λ _. ⌜ now (out .exit) ≡ outAfter (insert key1 key2 total1 total2) (lent (now (table .entry)) (now (record_words .entry)) []) ⌝ }
-    ensures { λ _. ⌜ now (table .exit) ≡ tableAfter (insert key1 key2 total1 total2) (lent (now (table .entry)) (now (record_words .entry)) []) ⌝ }
+    ensures { λ _. ⌜ now (out .exit) ≡ outAfter (put key1 key2 total1 total2) (lent (now (table .entry)) (now (record_words .entry)) []) ⌝ }
+    ensures { λ _. ⌜ now (table .exit) ≡ tableAfter (put key1 key2 total1 total2) (lent (now (table .entry)) (now (record_words .entry)) []) ⌝ }
 {
     numbers::put_placed(
         out,
-        reader::insert(
-            table,
-            records::version_of(record_words),
-            key1,
-            key2,
-            total1,
-            total2,
-        ),
-    );
-}
-
-// update: the slot
-#[no_mangle]
-pub extern "C" fn probe_update(
-    table: &mut [i64],
-    record_words: &[i64; 4],
-    key1: i64,
-    key2: i64,
-    total1: i64,
-    total2: i64,
-    out: &mut [i64; 8],
-)
-    ensures { λ _. ⌜ now (out .exit) ≡ outAfter (update key1 key2 total1 total2) (lent (now (table .entry)) (now (record_words .entry)) []) ⌝ }
-    ensures { λ _. ⌜ now (table .exit) ≡ tableAfter (update key1 key2 total1 total2) (lent (now (table .entry)) (now (record_words .entry)) []) ⌝ }
-{
-    numbers::put_placed(
-        out,
-        reader::update(
+        reader::put(
             table,
             records::version_of(record_words),
             key1,

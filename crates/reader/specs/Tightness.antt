@@ -19,10 +19,8 @@ use Rattle.reads.specs.ReadKey as readKey
 use Rattle.reads_roll_up.specs.RollUp.{RollUpContract}
 use Rattle.reads_roll_up.specs.RollUp as rollUp
 use Rattle.changes_rows.specs.declared.Placed.{Placed}
-use Rattle.changes.specs.Insert.{InsertContract}
-use Rattle.changes.specs.Insert as insert
-use Rattle.changes.specs.Update.{UpdateContract}
-use Rattle.changes.specs.Update as update
+use Rattle.changes.specs.Put.{PutContract}
+use Rattle.changes.specs.Put as put
 use Rattle.changes.specs.Delete.{DeleteContract}
 use Rattle.changes.specs.Delete as delete
 use Rattle.blocks_saves.specs.declared.Saved.{Saved}
@@ -48,10 +46,8 @@ pub record Tight : Type 0 where
   pub of-read-key : {t : List ℤ} {v : VersionRecord} {s key1 key2 : ℤ} {r r′ : Seen} → ReadKeyContract t v s key1 key2 r → ReadKeyContract t v s key1 key2 r′ → r ≡ r′
   pub of-roll-up : {t : List ℤ} {v : VersionRecord} {s key1 : ℤ} {r r′ : Rolled} → RollUpContract t v s key1 r → RollUpContract t v s key1 r′ → r ≡ r′
   -- the table's words that a change leaves are u
-  pub of-insert : {t u u′ : List ℤ} {v : VersionRecord} {key1 key2 total1 total2 : ℤ} {r r′ : Placed}
-      → InsertContract t v key1 key2 total1 total2 r u → InsertContract t v key1 key2 total1 total2 r′ u′ → (r ≡ r′) × (u ≡ u′)
-  pub of-update : {t u u′ : List ℤ} {v : VersionRecord} {key1 key2 total1 total2 : ℤ} {r r′ : Placed}
-      → UpdateContract t v key1 key2 total1 total2 r u → UpdateContract t v key1 key2 total1 total2 r′ u′ → (r ≡ r′) × (u ≡ u′)
+  pub of-put : {t u u′ : List ℤ} {v : VersionRecord} {key1 key2 total1 total2 : ℤ} {r r′ : Placed}
+      → PutContract t v key1 key2 total1 total2 r u → PutContract t v key1 key2 total1 total2 r′ u′ → (r ≡ r′) × (u ≡ u′)
   pub of-delete : {t u u′ : List ℤ} {v : VersionRecord} {key1 key2 : ℤ} {r r′ : Placed}
       → DeleteContract t v key1 key2 r u → DeleteContract t v key1 key2 r′ u′ → (r ≡ r′) × (u ≡ u′)
   -- a save answers its refusal, and hands out the block
@@ -73,8 +69,7 @@ tight = record {
   of-read-slot = readSlot.one-outcome;
   of-read-key = readKey.one-outcome;
   of-roll-up = rollUp.one-outcome;
-  of-insert = insert.one-outcome;
-  of-update = update.one-outcome;
+  of-put = put.one-outcome;
   of-delete = delete.one-outcome;
   of-save-header = saveHeader.one-outcome;
   of-save-block = saveBlock.one-outcome;

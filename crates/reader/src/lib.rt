@@ -34,10 +34,8 @@ pub use reads::read_slot;
 pub use reads::read_key;
 // Roll up the rows with a first key word, at a session's version.
 pub use reads_roll_up::roll_up;
-// Insert a row, in a run.
-pub use changes::insert;
-// Update a row's totals, in a run.
-pub use changes::update;
+// Give a key its totals, in a run, whether it has a row or not.
+pub use changes::put;
 // Delete a row, in a run.
 pub use changes::delete;
 // Save block 0: slots and current.
@@ -64,7 +62,6 @@ pub use refusals::BAD_TABLE;
 pub use refusals::BAD_TOTAL;
 pub use refusals::BROKEN_SLOT;
 pub use refusals::EXPIRED;
-pub use refusals::KEY_LIVE;
 pub use refusals::KEY_NOT_LIVE;
 pub use refusals::NO_RUN;
 pub use refusals::NO_SUCH_PLACE;

@@ -38,10 +38,6 @@ noRun = 8
 abbrev pub noVersionLeft : ℕ
 noVersionLeft = 9
 
--- the key is live
-abbrev pub keyLive : ℕ
-keyLive = 10
-
 -- the key is not live, deleted or absent
 abbrev pub keyNotLive : ℕ
 keyNotLive = 11

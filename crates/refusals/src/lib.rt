@@ -27,9 +27,6 @@ pub const NO_RUN: u32 = 8;
 // Current is the largest version.
 pub const NO_VERSION_LEFT: u32 = 9;
 
-// The key is live.
-pub const KEY_LIVE: u32 = 10;
-
 // The key is not live, deleted or absent.
 pub const KEY_NOT_LIVE: u32 = 11;
 

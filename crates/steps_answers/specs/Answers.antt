@@ -5,11 +5,11 @@ use mathlib.Core.List.{List, []}
 use Prim.Native.Nat.{ℕ}
 use lib.IntN.{ℤ}
 use Rattle.versions.specs.declared.VersionRecord.{VersionRecord}
-use Rattle.calls.specs.Calls.{Call, begin, commit, insert, update, delete, readKey, Answer}
+use Rattle.calls.specs.Calls.{Call, begin, commit, put, delete, readKey, Answer}
 use Rattle.calls.specs.Calls as answer
 use Rattle.calls.specs.Perform.{State, perform}
 use Rattle.steps_commands.specs.declared.Command.{Command}
-use Rattle.steps_commands.specs.declared.Command.the-variants.{Begin, Commit, Insert, Update, Delete, Read, Bad}
+use Rattle.steps_commands.specs.declared.Command.the-variants.{Begin, Commit, Put, Delete, Read, Bad}
 use Rattle.steps_commands.specs.Commands.{asked}
 use Rattle.steps_replies.specs.Replies.{versionLine, slotLine, rowLine, badLine}
 use Rattle.steps_replies.specs.Written.{Written}
@@ -20,12 +20,11 @@ pub data Asks : Type 0 where
   asks : Call → Asks
   nothing : Asks
 
--- B begin, C commit, I insert, U update, D delete, R read a key; anything else is a bad line
+-- B begin, C commit, P put, D delete, R read a key; anything else is a bad line
 abbrev pub callOf : Command → Asks
 callOf Begin = asks begin
 callOf Commit = asks commit
-callOf (Insert key1 key2 total1 total2) = asks (insert key1 key2 total1 total2)
-callOf (Update key1 key2 total1 total2) = asks (update key1 key2 total1 total2)
+callOf (Put key1 key2 total1 total2) = asks (put key1 key2 total1 total2)
 callOf (Delete key1 key2) = asks (delete key1 key2)
 callOf (Read s key1 key2) = asks (readKey s key1 key2)
 callOf Bad = nothing

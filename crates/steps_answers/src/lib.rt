@@ -69,22 +69,13 @@ pub fn answer(
     match steps_commands::read_command(line) {
         Command::Begin => reply_turned(reader::begin_by_value(versions), buffer, place),
         Command::Commit => reply_turned(reader::commit_by_value(versions), buffer, place),
-        Command::Insert {
+        Command::Put {
             key1,
             key2,
             total1,
             total2,
         } => {
-            let placed = reader::insert(table, versions, key1, key2, total1, total2);
-            reply_placed(placed, versions, buffer, place)
-        }
-        Command::Update {
-            key1,
-            key2,
-            total1,
-            total2,
-        } => {
-            let placed = reader::update(table, versions, key1, key2, total1, total2);
+            let placed = reader::put(table, versions, key1, key2, total1, total2);
             reply_placed(placed, versions, buffer, place)
         }
         Command::Delete { key1, key2 } => {

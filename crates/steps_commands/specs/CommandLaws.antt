@@ -9,7 +9,7 @@ use lib.Dec.{eqb, eqb·suc-suc}
 use lib.ListN.{length, getD, drop}
 use borrow.Author.Tests.{eqb-true, ne-eqb}
 use Rattle.laws.specs.TestLaws.{by-test, clash}
-use Rattle.steps_commands.specs.declared.Command.the-variants.{Insert, Update, Delete, Read, Bad}
+use Rattle.steps_commands.specs.declared.Command.the-variants.{Put, Delete, Read, Bad}
 use Rattle.steps_commands.specs.Commands.{spaceByte, fields, commandOf, asked}
 use Rattle.steps_commands.specs.CountLaws.{two-asked, three-asked, four-asked}
 use Rattle.steps_commands.specs.FieldLaws.{some-fields}
@@ -25,11 +25,10 @@ command-numbered : (b : ℕ) (g : List ℕ) (gs : List (List ℕ)) → commandOf
 unfolding numberedOf
 command-numbered b g gs =
     let fs = g ∷ gs in
-    by-test (eqb b 73) (λ y. rw (eqb-true b 73 y, eqb·suc-suc (length fs) 4) (four-asked fs Insert))
-    (λ i. by-test (eqb b 85) (λ y. rw (eqb-true b 85 y, eqb·suc-suc (length fs) 4) (four-asked fs Update))
-    (λ u. by-test (eqb b 68) (λ y. rw (eqb-true b 68 y, eqb·suc-suc (length fs) 2) (two-asked fs Delete))
+    by-test (eqb b 80) (λ y. rw (eqb-true b 80 y, eqb·suc-suc (length fs) 4) (four-asked fs Put))
+    (λ p. by-test (eqb b 68) (λ y. rw (eqb-true b 68 y, eqb·suc-suc (length fs) 2) (two-asked fs Delete))
     (λ d. by-test (eqb b 82) (λ y. rw (eqb-true b 82 y, eqb·suc-suc (length fs) 3) (three-asked fs Read))
-    (λ r. simp (ne-eqb (suc (length fs)) 1 (omega arith), and-false, i, u, d, r)))))
+    (λ r. simp (ne-eqb (suc (length fs)) 1 (omega arith), and-false, p, d, r))))
 
 -- ---- a line by its first two bytes
 pub empty-line : (line : List ℕ) → length line ≡ 0 → Bad ≡ asked line

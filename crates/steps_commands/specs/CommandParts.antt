@@ -4,7 +4,7 @@ use mathlib.Core.List.{List}
 use Prim.Native.Nat.{ℕ}
 use lib.Dec.{eqb}
 use Rattle.steps_commands.specs.declared.Command.{Command}
-use Rattle.steps_commands.specs.declared.Command.the-variants.{Begin, Commit, Insert, Update, Delete, Read, Bad}
+use Rattle.steps_commands.specs.declared.Command.the-variants.{Begin, Commit, Put, Delete, Read, Bad}
 use Rattle.steps_commands.specs.Counts.{twoOf, threeOf, fourOf, withTwoOf, withThreeOf, withFourOf}
 
 -- a letter alone, and one with numbers
@@ -13,8 +13,7 @@ bareOf letter = cond (eqb letter 66) Begin (cond (eqb letter 67) Commit Bad)
 
 unfoldable pub numberedOf : ℕ → List (List ℕ) → Command
 numberedOf letter fs =
-    cond (eqb letter 73) (withFourOf (fourOf fs) Insert)
-    (cond (eqb letter 85) (withFourOf (fourOf fs) Update)
+    cond (eqb letter 80) (withFourOf (fourOf fs) Put)
     (cond (eqb letter 68) (withTwoOf (twoOf fs) Delete)
     (cond (eqb letter 82) (withThreeOf (threeOf fs) Read)
-    Bad)))
+    Bad))

@@ -9,7 +9,7 @@ use lib.ListN.{length, getD}
 use Rattle.steps_commands.specs.declared.Number.{Number}
 use Rattle.steps_commands.specs.declared.Number.the-variants as number
 use Rattle.steps_commands.specs.declared.Command.{Command}
-use Rattle.steps_commands.specs.declared.Command.the-variants.{Begin, Commit, Insert, Update, Delete, Read, Bad}
+use Rattle.steps_commands.specs.declared.Command.the-variants.{Begin, Commit, Put, Delete, Read, Bad}
 use Rattle.steps_commands.specs.Numerals.{numberOf}
 
 -- the byte ' '
@@ -45,16 +45,15 @@ field fs k = numberOf (getD fs k [])
 abbrev pub withTwo : List (List ℕ) → ℕ → (ℤ → ℤ → Command) → Command
 withTwo fs k f = withNumber (field fs k) (λ a. withNumber (field fs (k + 1)) (λ b. f a b))
 
--- B begin; C commit; I and U, two keys and two totals; D, two keys; R, session and two keys
+-- B begin; C commit; P, two keys and two totals; D, two keys; R, session and two keys
 abbrev pub commandOf : List (List ℕ) → Command
 commandOf fs =
     cond (asks 66 0 fs) Begin
     (cond (asks 67 0 fs) Commit
-    (cond (asks 73 4 fs) (withTwo fs 1 (λ one two. withTwo fs 3 (λ a b. Insert one two a b)))
-    (cond (asks 85 4 fs) (withTwo fs 1 (λ one two. withTwo fs 3 (λ a b. Update one two a b)))
+    (cond (asks 80 4 fs) (withTwo fs 1 (λ one two. withTwo fs 3 (λ a b. Put one two a b)))
     (cond (asks 68 2 fs) (withTwo fs 1 (λ one two. Delete one two))
     (cond (asks 82 3 fs) (withNumber (field fs 1) (λ s. withTwo fs 2 (λ one two. Read s one two)))
-    Bad)))))
+    Bad))))
 
 unfoldable pub asked : List ℕ → Command
 asked line = commandOf (fields line)

@@ -9,7 +9,7 @@ ghost use Rattle.steps_commands.specs.Commands.{fields, asked};
 ghost use Rattle.steps_commands.specs.Fields.{firstEnd, firstOf};
 ghost use Rattle.steps_commands.specs.Counts.{twoOf, threeOf, fourOf, withTwoOf, withThreeOf, withFourOf};
 ghost use Rattle.steps_commands.specs.CommandParts.{bareOf, numberedOf};
-ghost use Rattle.steps_commands.specs.declared.Command.the-variants.{Insert, Update, Delete, Read};
+ghost use Rattle.steps_commands.specs.declared.Command.the-variants.{Put, Delete, Read};
 
 // The longest line that asks anything: a letter, and four numbers of 20 bytes with a space before each.
 pub const LONGEST_COMMAND: usize = 85;
@@ -38,13 +38,7 @@ pub enum Number {
 pub enum Command {
     Begin,
     Commit,
-    Insert {
-        key1: i64,
-        key2: i64,
-        total1: i64,
-        total2: i64,
-    },
-    Update {
+    Put {
         key1: i64,
         key2: i64,
         total1: i64,
@@ -234,27 +228,13 @@ fn read_four(line: &[u8]) -> Four
     Four::Are(one, two, three, four)
 }
 
-fn insert_of(numbers: Four) -> Command
-    ensures { λ r. ⌜ r ≡ withFourOf numbers Insert ⌝ }
+fn put_of(numbers: Four) -> Command
+    ensures { λ r. ⌜ r ≡ withFourOf numbers Put ⌝ }
 {
     let Four::Are(key1, key2, total1, total2) = numbers else {
         return Command::Bad;
     };
-    Command::Insert {
-        key1,
-        key2,
-        total1,
-        total2,
-    }
-}
-
-fn update_of(numbers: Four) -> Command
-    ensures { λ r. ⌜ r ≡ withFourOf numbers Update ⌝ }
-{
-    let Four::Are(key1, key2, total1, total2) = numbers else {
-        return Command::Bad;
-    };
-    Command::Update {
+    Command::Put {
         key1,
         key2,
         total1,
@@ -301,11 +281,8 @@ fn read_bare(letter: u8) -> Command
 fn read_numbered(letter: u8, numbers: &[u8]) -> Command
     ensures { λ r. ⌜ r ≡ numberedOf letter (fields (now (numbers .entry))) ⌝ }
 {
-    if letter == b'I' {
-        return insert_of(read_four(numbers));
-    }
-    if letter == b'U' {
-        return update_of(read_four(numbers));
+    if letter == b'P' {
+        return put_of(read_four(numbers));
     }
     if letter == b'D' {
         return delete_of(read_two(numbers));

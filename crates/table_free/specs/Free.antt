@@ -1,4 +1,4 @@
--- The slot that an insert takes where its key has none. Only this crate unfolds `free` and `freeSlot`. RULES.md, The table and
+-- The slot that a put takes where its key has none. Only this crate unfolds `free` and `freeSlot`. RULES.md, The table and
 -- its slots. Assumes nothing.
 use mathlib.Core.Bool.{Bool, _||_}
 use mathlib.Core.List.{List, [], _∷_}

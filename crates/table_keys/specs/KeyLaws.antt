@@ -66,11 +66,8 @@ absent-nowhere t key1 key2 b l j =
 pub absent-empty : (t : List ℤ) (key1 key2 : ℤ) → badTable t ≡ false → slots t ≤ keySlot t key1 key2 → keyed t key1 key2 ≡ empty
 absent-empty t key1 key2 b l = slotAt-past t (keySlot t key1 key2) b l
 
--- a live key has a slot, and its slot has the key
+-- a live key has a slot
 pub live-placed : (t : List ℤ) (key1 key2 : ℤ) → badTable t ≡ false → keyLive t key1 key2 ≡ true → keySlot t key1 key2 < slots t
 live-placed t key1 key2 b l =
     by-test (ltb (keySlot t key1 key2) (slots t)) (ltb-true _ _)
     (λ n. clash l (rw (absent-empty t key1 key2 b (ltb-false _ _ n)) dead-empty))
-
-pub live-keyed : (t : List ℤ) (key1 key2 : ℤ) → badTable t ≡ false → keyLive t key1 key2 ≡ true → Keyed (keyed t key1 key2) key1 key2
-live-keyed t key1 key2 b l = has-key _ key1 key2 (keySlot-is t key1 key2 .passes (live-placed t key1 key2 b l))

@@ -48,11 +48,7 @@ impl Arguments {
                 session: self.session(random, lent),
                 one: self.key(random).one,
             },
-            Kind::Insert => Call::Insert {
-                key: self.key(random),
-                totals: self.totals(random),
-            },
-            Kind::Update => Call::Update {
+            Kind::Put => Call::Put {
                 key: self.key(random),
                 totals: self.totals(random),
             },

@@ -1,4 +1,5 @@
-//! Document 01's figures, by which the model itself is held to the document.
+//! Document 01's figures and what request 1 says of put, cell by cell, by which the
+//! model itself is held to the documents.
 
 use crate::cases::case::Case;
 use crate::model::block::{BLOCK_BYTES, Block, HALF_BYTES};
@@ -27,14 +28,43 @@ const FIGURE_6: [[i64; SLOT_WORDS]; 5] = [
     [5, 1, 3, 19_961_013, 6_000, 0, 0, 0],
 ];
 
-pub const STEPS_INPUT: &str = "\
+/// A table in which each cell that a put can come to is met, at current 2 in run 3.
+const EVERY_CELL: [[i64; SLOT_WORDS]; 6] = [
+    [2, 1, 1, 1, 10, 0, 0, 0],
+    [2, 2, 2, 2, 20, 0, 5, 0],
+    [2, 3, 3, 3, 30, 0, 30, 0],
+    [3, 1, 4, 4, 40, 0, 0, 0],
+    [3, 2, 5, 5, 50, 0, 6, 0],
+    [3, 3, 6, 6, 60, 0, 7, 0],
+];
+
+/// The same after a put of each key: Table 3, but Table 2 in slots 2 and 5.
+const EVERY_CELL_PUT: [[i64; SLOT_WORDS]; 6] = [
+    [3, 2, 1, 1, 11, 0, 10, 0],
+    [3, 2, 2, 2, 21, 0, 20, 0],
+    [3, 1, 3, 3, 31, 0, 0, 0],
+    [3, 1, 4, 4, 41, 0, 0, 0],
+    [3, 2, 5, 5, 51, 0, 6, 0],
+    [3, 2, 6, 6, 61, 0, 7, 0],
+];
+
+/// A slot that is not well formed at current 2 in run 3: an insert with old totals.
+const BROKEN_SLOT: [i64; SLOT_WORDS] = [3, 1, 1, 1, 10, 0, 9, 0];
+
+/// What the program steps reads, and what it prints for it.
+pub const SESSIONS: [(&str, &str); 2] = [
+    (STEPS_INPUT, STEPS_OUTPUT),
+    (BAD_LETTERS_INPUT, BAD_LETTERS_OUTPUT),
+];
+
+const STEPS_INPUT: &str = "\
 B
-I 1 19961014 10000 0
-I 1 19961015 1500 0
+P 1 19961014 10000 0
+P 1 19961015 1500 0
 C
 B
-U 1 19961014 10200 0
-U 1 19961014 10300 0
+P 1 19961014 10200 0
+P 1 19961014 10300 0
 D 1 19961015
 R 2 1 19961014
 R 1 1 19961014
@@ -61,6 +91,24 @@ row 10300 0
 none
 ";
 
+const BAD_LETTERS_INPUT: &str = "\
+B
+I 1 19961014 10000 0
+P 1 19961014 10000 0
+U 1 19961014 10200 0
+C
+R 2 1 19961014
+";
+
+const BAD_LETTERS_OUTPUT: &str = "\
+version 2
+bad line
+slot 0
+bad line
+version 2
+row 10000 0
+";
+
 /// What a call of a figure is to give: the first numbers, zeros after them, or
 /// the check of the block that it saves.
 enum Gives {
@@ -68,17 +116,19 @@ enum Gives {
     Check(u32),
 }
 
-/// A case whose outcome the document says.
+/// A case whose outcome the documents say.
 struct Figure {
     start: Lent,
     calls: Vec<(Call, Gives)>,
     end: Option<Vec<i64>>,
 }
 
-/// The cases of the figures, or what the model gives otherwise than the document.
+/// The cases of the figures, or what the model gives otherwise than the documents.
 pub fn cases() -> Result<Vec<Case>, String> {
-    if steps::output(STEPS_INPUT.as_bytes()) != STEPS_OUTPUT {
-        return Err("the session of the program steps".to_string());
+    for (input, output) in SESSIONS {
+        if steps::output(input.as_bytes()) != output {
+            return Err(format!("a session of the program steps:\n{input}"));
+        }
     }
     let figures = [
         reads_of_figure_4(),
@@ -86,6 +136,8 @@ pub fn cases() -> Result<Vec<Case>, String> {
         net_effects(),
         one_slot(),
         totals(),
+        every_cell_of_put(),
+        tests_of_put(),
         checks(0, 19_971_019),
         checks(-1, 19_971_017),
     ];
@@ -123,16 +175,8 @@ fn key(one: i64, two: i64) -> Key {
     Key { one, two }
 }
 
-fn insert(one: i64, two: i64, total: i64, gives: &[i64]) -> (Call, Gives) {
-    let call = Call::Insert {
-        key: key(one, two),
-        totals: [total, 0],
-    };
-    (call, Gives::Numbers(gives.to_vec()))
-}
-
-fn update(one: i64, two: i64, total: i64, gives: &[i64]) -> (Call, Gives) {
-    let call = Call::Update {
+fn put(one: i64, two: i64, total: i64, gives: &[i64]) -> (Call, Gives) {
+    let call = Call::Put {
         key: key(one, two),
         totals: [total, 0],
     };
@@ -192,9 +236,9 @@ fn changes_of_figure_5() -> Figure {
         start: figure_4(),
         calls: vec![
             begin(5),
-            insert(1, 19_961_016, 11_000, &[0, 3]),
-            insert(3, 19_961_013, 6_000, &[0, 4]),
-            update(1, 19_961_014, 10_200, &[0, 0]),
+            put(1, 19_961_016, 11_000, &[0, 3]),
+            put(3, 19_961_013, 6_000, &[0, 4]),
+            put(1, 19_961_014, 10_200, &[0, 0]),
             delete(2, 19_961_014, &[0, 2]),
         ],
         end: Some(FIGURE_6.concat()),
@@ -211,14 +255,14 @@ fn net_effects() -> Figure {
         start: Lent::fresh(3),
         calls: vec![
             begin(2),
-            insert(1, 1, 6, &[0, 0]),
+            put(1, 1, 6, &[0, 0]),
             commit(2),
             begin(3),
             delete(1, 1, &[0, 0]),
-            insert(1, 1, 7, &[0, 0]),
-            insert(2, 2, 8, &[0, 1]),
-            update(2, 2, 9, &[0, 1]),
-            insert(3, 3, 5, &[0, 2]),
+            put(1, 1, 7, &[0, 0]),
+            put(2, 2, 8, &[0, 1]),
+            put(2, 2, 9, &[0, 1]),
+            put(3, 3, 5, &[0, 2]),
             delete(3, 3, &[0, 2]),
         ],
         end: Some(end.concat()),
@@ -230,14 +274,14 @@ fn one_slot() -> Figure {
         start: Lent::fresh(1),
         calls: vec![
             begin(2),
-            insert(1, 1, 6, &[0, 0]),
+            put(1, 1, 6, &[0, 0]),
             commit(2),
             begin(3),
             delete(1, 1, &[0, 0]),
-            insert(2, 2, 8, &[12]),
+            put(2, 2, 8, &[12]),
             commit(3),
             begin(4),
-            insert(2, 2, 8, &[0, 0]),
+            put(2, 2, 8, &[0, 0]),
         ],
         end: None,
     }
@@ -248,16 +292,59 @@ fn totals() -> Figure {
         start: Lent::fresh(1),
         calls: vec![
             begin(2),
-            insert(1, 1, LARGEST_TOTAL + 1, &[13]),
-            insert(1, 1, LARGEST_TOTAL, &[0, 0]),
+            put(1, 1, LARGEST_TOTAL + 1, &[13]),
+            put(1, 1, LARGEST_TOTAL, &[0, 0]),
         ],
         end: None,
     }
 }
 
+fn in_run_3(slots: &[[i64; SLOT_WORDS]]) -> Lent {
+    Lent {
+        table: Table {
+            words: slots.concat(),
+        },
+        record: VersionRecord::new(2, 1, [0, 0]),
+    }
+}
+
+/// Each key goes into its own slot by its own cell, though slot 2 is free at first.
+/// Once that slot is put the table is full, which stops an absent key alone.
+fn every_cell_of_put() -> Figure {
+    Figure {
+        start: in_run_3(&EVERY_CELL),
+        calls: vec![
+            put(6, 6, 61, &[0, 5]),
+            put(5, 5, 51, &[0, 4]),
+            put(4, 4, 41, &[0, 3]),
+            put(3, 3, 31, &[0, 2]),
+            put(7, 7, 71, &[12]),
+            put(2, 2, 21, &[0, 1]),
+            put(1, 1, 11, &[0, 0]),
+        ],
+        end: Some(EVERY_CELL_PUT.concat()),
+    }
+}
+
+/// The tests of a put in their order: at a broken slot, at an absent key in a full table, and with no run.
+fn tests_of_put() -> Figure {
+    Figure {
+        start: in_run_3(&[BROKEN_SLOT]),
+        calls: vec![
+            put(1, 1, LARGEST_TOTAL + 1, &[13]),
+            put(1, 1, LARGEST_TOTAL, &[6]),
+            put(2, 2, LARGEST_TOTAL + 1, &[13]),
+            put(2, 2, LARGEST_TOTAL, &[12]),
+            commit(3),
+            put(1, 1, LARGEST_TOTAL + 1, &[8]),
+        ],
+        end: Some(BROKEN_SLOT.to_vec()),
+    }
+}
+
 /// The checks of the blocks of eight slots, one of them with this total two.
 fn checks(total_two: i64, check: u32) -> Figure {
-    let insert = Call::Insert {
+    let put = Call::Put {
         key: key(1, 19_961_014),
         totals: [10_000, total_two],
     };
@@ -270,7 +357,7 @@ fn checks(total_two: i64, check: u32) -> Figure {
             begin(2),
             (Call::SaveHeader, Gives::Numbers(vec![7])),
             (save.clone(), Gives::Numbers(vec![7])),
-            (insert, Gives::Numbers(vec![0, 0])),
+            (put, Gives::Numbers(vec![0, 0])),
             commit(2),
             (save, Gives::Check(check)),
             (

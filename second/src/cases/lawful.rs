@@ -44,9 +44,8 @@ enum Next {
     AnyKind,
 }
 
-const IN_A_RUN: [(usize, Next); 10] = [
-    (24, Next::Call(Kind::Insert)),
-    (16, Next::Call(Kind::Update)),
+const IN_A_RUN: [(usize, Next); 9] = [
+    (40, Next::Call(Kind::Put)),
     (17, Next::Call(Kind::Delete)),
     (8, Next::Call(Kind::ReadKey)),
     (4, Next::Call(Kind::ReadSlot)),

@@ -1,5 +1,5 @@
 //! What is asked of both sides: cases of calls and inputs of the program `steps`,
-//! drawn at random, and document 01's figures. It knows the model alone.
+//! drawn at random, and the documents' figures. It knows the model alone.
 
 pub mod arguments;
 pub mod case;

@@ -37,7 +37,10 @@ const NUMBERS: [&str; 24] = [
     "00000000000000000001",
 ];
 
-const BAD_LINES: [&[u8]; 22] = [
+/// Letters in whose place P came: their lines are bad, whatever follows.
+const LETTERS_OF_OLD: [&str; 2] = ["I", "U"];
+
+const BAD_LINES: [&[u8]; 24] = [
     b"",
     b" ",
     b"B ",
@@ -53,8 +56,10 @@ const BAD_LINES: [&[u8]; 22] = [
     b"D  1 1",
     b"D 1 1 ",
     b"R 1 1",
-    b"I 1 1 1",
-    b"U 1\t1 1 1",
+    b"P 1 1 1",
+    b"P 1 1 1 1 1",
+    b"P 1\t1 1 1",
+    b"p 1 1 1 1",
     b"S 8",
     b"\0",
     b"B\0",
@@ -81,11 +86,11 @@ pub fn input(random: &mut Random) -> Vec<u8> {
 
 /// An input with one very long line among others.
 pub fn long_input(random: &mut Random) -> Vec<u8> {
-    let mut input = b"B\nI 1 1 5 0\n".to_vec();
-    let unit = random.pick(&[&b"0"[..], b" 1", b" ", b"1", b"\0", b"I 1 1 1 1 "]);
+    let mut input = b"B\nP 1 1 5 0\n".to_vec();
+    let unit = random.pick(&[&b"0"[..], b" 1", b" ", b"1", b"\0", b"P 1 1 1 1 "]);
     input.extend_from_slice(b"R 1");
     input.extend(unit.iter().cycle().take(1 + random.below(LONG_LINE_BYTES)));
-    input.extend_from_slice(b"\nU 1 1 6 0\nC\nR 2 1 1");
+    input.extend_from_slice(b"\nP 1 1 6 0\nC\nR 2 1 1");
     input
 }
 
@@ -104,6 +109,7 @@ impl Session {
             2 => (0..random.below(12)).map(|_| any_byte(random)).collect(),
             3 => self.turn().into_bytes(),
             4 => random.pick(&["B", "C"]).as_bytes().to_vec(),
+            5 => put_line(random.pick(&LETTERS_OF_OLD), random).into_bytes(),
             _ if !self.run_active && random.percent(BEGIN_PERCENT) => self.turn().into_bytes(),
             _ => self.row_line(random).into_bytes(),
         }
@@ -118,8 +124,7 @@ impl Session {
 
     fn row_line(&self, random: &mut Random) -> String {
         match random.below(14) {
-            0..=4 => format!("I {} {}", key(random), totals(random)),
-            5..=6 => format!("U {} {}", key(random), totals(random)),
+            0..=6 => put_line("P", random),
             7..=9 => format!("D {}", key(random)),
             10 => format!("R {} {}", number(random), key(random)),
             _ => {
@@ -128,6 +133,11 @@ impl Session {
             }
         }
     }
+}
+
+/// A letter before the fields of a put.
+fn put_line(letter: &str, random: &mut Random) -> String {
+    format!("{letter} {} {}", key(random), totals(random))
 }
 
 /// A byte that is no newline.
@@ -140,7 +150,7 @@ fn any_byte(random: &mut Random) -> u8 {
 fn spoilt(line: String, random: &mut Random) -> Vec<u8> {
     let mut line = line.into_bytes();
     let place = random.below(line.len());
-    let byte = random.pick(b" \t\r-+0123456789BCDIRU\0\xa0");
+    let byte = random.pick(b" \t\r-+0123456789BCDIPRU\0\xa0");
     match random.below(3) {
         0 => line[place] = byte,
         1 => line.insert(place, byte),

@@ -48,13 +48,14 @@ impl Found {
             reads,
             expired,
             scans,
-            inserts,
+            puts,
             full,
+            held,
         } = self.tally;
         println!(
             "demand 3 followed over {histories} histories: {reads} reads, {expired} of them \
-             expired; {scans} sessions that read every slot; {inserts} inserts of a key not \
-             live, {full} of them refused as full"
+             expired; {scans} sessions that read every slot; {puts} puts of lawful totals, \
+             {full} of them refused as full and {held} of a key held where there was no room"
         );
         println!(
             "{} calls: numbers, table, record and block agree",

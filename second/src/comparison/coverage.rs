@@ -1,13 +1,15 @@
-//! What the calls reached: every refusal of every call, and every cell of the
-//! source's Tables 1 to 4.
+//! What the calls reached: every refusal of every call, every cell of the source's
+//! Tables 1 to 4 that a call can come to, and the rare cases of a put.
 
+use crate::comparison::rare::{MetByPut, RARE};
 use crate::model::call::{Answer, Call, KINDS, Kind, Lent, Outcome};
-use crate::model::refusal::Refusal;
-use crate::model::slot::{EMPTY, INSERT, Key, Slot};
+use crate::model::refusal::{REFUSALS, Refusal};
+use crate::model::slot::{DELETE, EMPTY, INSERT, Key, Slot, UPDATE};
 
-const REFUSALS: usize = 16;
-const OUTCOMES: usize = REFUSALS + 1;
-const OPERATIONS: usize = 3;
+const LARGEST_REFUSAL: usize = REFUSALS[REFUSALS.len() - 1] as usize;
+const OUTCOMES: usize = LARGEST_REFUSAL + 1;
+const ANSWERED: usize = 0;
+const OPERATIONS: [i64; 3] = [INSERT, UPDATE, DELETE];
 const ROWS: usize = 2;
 
 /// The refusals of each call, by its number; 0 is an answer.
@@ -18,8 +20,7 @@ const REACHABLE: [&[usize]; KINDS.len()] = [
     &[0, 1, 2, 3, 4, 5, 6],
     &[0, 1, 2, 3, 4, 6],
     &[0, 1, 2, 3, 4, 6],
-    &[0, 1, 2, 6, 8, 10, 12, 13],
-    &[0, 1, 2, 6, 8, 11, 13],
+    &[0, 1, 2, 6, 8, 12, 13],
     &[0, 1, 2, 6, 8, 11],
     &[0, 1, 2, 7],
     &[0, 1, 2, 5, 6, 7],
@@ -28,7 +29,7 @@ const REACHABLE: [&[usize]; KINDS.len()] = [
 ];
 
 /// The cells of a decision table by row, as the source has them, and operation.
-type Cells = [[u64; OPERATIONS]; ROWS];
+type Cells = [[u64; OPERATIONS.len()]; ROWS];
 
 #[derive(Clone, Default, Debug)]
 pub struct Coverage {
@@ -37,22 +38,26 @@ pub struct Coverage {
     cells: [Cells; TABLES.len()],
     /// Table 2, no conflicting tuple: an empty slot taken, a deleted one taken
     taken: [u64; 2],
+    /// the rare cases of a put
+    rare: [u64; RARE.len()],
 }
 
-const TABLES: [(&str, Kind); 6] = [
-    ("Table 1, read a slot", Kind::ReadSlot),
-    ("Table 1, read a key", Kind::ReadKey),
-    ("Table 1, roll-up", Kind::RollUp),
-    ("Table 2, insert", Kind::Insert),
-    ("Table 3, update", Kind::Update),
-    ("Table 4, delete", Kind::Delete),
+/// The tables by the call that comes to them, and the operations of a slot by which
+/// it does: a put of a live key comes to Table 3, of a deleted one to Table 2.
+const TABLES: [(&str, Kind, &[i64]); 6] = [
+    ("Table 1, read a slot", Kind::ReadSlot, &OPERATIONS),
+    ("Table 1, read a key", Kind::ReadKey, &OPERATIONS),
+    ("Table 1, roll-up", Kind::RollUp, &OPERATIONS),
+    ("Table 2, put", Kind::Put, &[DELETE]),
+    ("Table 3, put", Kind::Put, &[INSERT, UPDATE]),
+    ("Table 4, delete", Kind::Delete, &OPERATIONS),
 ];
 
 impl Coverage {
     /// Counts a call on what was lent before it, and its outcome.
     pub fn count(&mut self, call: &Call, before: &Lent, outcome: &Outcome) {
         let number = match outcome {
-            Ok(_) => 0,
+            Ok(_) => ANSWERED,
             Err(refusal) => refusal.number() as usize,
         };
         self.outcomes[call.kind() as usize][number] += 1;
@@ -71,11 +76,15 @@ impl Coverage {
                     self.count_cell(call.kind(), &slot, slot.run <= *session);
                 }
             }
-            (
-                Call::Insert { key, .. } | Call::Update { key, .. } | Call::Delete { key },
-                Ok(_) | Err(Refusal::KeyLive | Refusal::KeyNotLive),
-            ) => self.count_change(call.kind(), *key, before, outcome),
+            (Call::Put { key, .. } | Call::Delete { key }, Ok(_) | Err(Refusal::KeyNotLive)) => {
+                self.count_change(call.kind(), *key, before, outcome);
+            }
             _ => {}
+        }
+        if let Call::Put { key, totals } = call
+            && let Some(met) = MetByPut::of(*key, *totals, before, outcome)
+        {
+            self.count_rare(&met);
         }
     }
 
@@ -92,10 +101,17 @@ impl Coverage {
     }
 
     fn count_cell(&mut self, kind: Kind, slot: &Slot, first_row: bool) {
-        let table = TABLES.iter().position(|&(_, of)| of == kind);
-        if let (Some(table), false) = (table, slot.operation == EMPTY) {
-            let operation = (slot.operation - INSERT) as usize;
-            self.cells[table][usize::from(!first_row)][operation] += 1;
+        let table = TABLES
+            .iter()
+            .position(|(_, of, by)| *of == kind && by.contains(&slot.operation));
+        if let Some(table) = table {
+            self.cells[table][usize::from(!first_row)][column(slot.operation)] += 1;
+        }
+    }
+
+    fn count_rare(&mut self, met: &MetByPut) {
+        for (count, (_, is_met)) in self.rare.iter_mut().zip(RARE) {
+            *count += u64::from(is_met(met));
         }
     }
 
@@ -107,6 +123,7 @@ impl Coverage {
         let cells = self.cells.as_flattened_mut().as_flattened_mut();
         add_all(cells, other.cells.as_flattened().as_flattened());
         add_all(&mut self.taken, &other.taken);
+        add_all(&mut self.rare, &other.rare);
     }
 
     /// What can be reached and was not.
@@ -119,37 +136,66 @@ impl Coverage {
                 }
             }
         }
-        for ((name, _), rows) in TABLES.iter().zip(&self.cells) {
-            if rows.as_flattened().contains(&0) {
+        for ((name, _, operations), rows) in TABLES.iter().zip(&self.cells) {
+            let mut columns = operations.iter().map(|&operation| column(operation));
+            if columns.any(|column| rows.iter().any(|row| row[column] == 0)) {
                 missing.push(format!("a cell of {name}"));
             }
         }
         if self.taken.contains(&0) {
             missing.push("a way to take a slot in Table 2".to_string());
         }
+        for (&count, (name, _)) in self.rare.iter().zip(RARE) {
+            if count == 0 {
+                missing.push(format!("put: {name}"));
+            }
+        }
         missing
     }
 
-    /// The tables of counts. A column is an outcome: 0 or the refusal's number.
+    /// The tables of counts.
     pub fn print(&self) {
-        let heads: Vec<String> = (0..OUTCOMES).map(|number| format!("{number:>8}")).collect();
-        println!("{:<12}{}", "call", heads.concat());
+        self.print_outcomes();
+        self.print_cells();
+        self.print_rare();
+    }
+
+    /// A column is an outcome: 0 or the refusal's number.
+    fn print_outcomes(&self) {
+        let mut numbers = vec![ANSWERED];
+        numbers.extend(REFUSALS.map(|refusal| refusal as usize));
+        let heads = numbers.iter().map(|number| format!("{number:>8}"));
+        println!("{:<12}{}", "call", heads.collect::<String>());
         for kind in KINDS {
-            let counts = self.outcomes[kind as usize].iter();
-            let shown: Vec<String> = counts.map(|&count| shown(count)).collect();
-            println!("{:<12}{}", format!("{kind:?}"), shown.concat());
+            let counts = self.outcomes[kind as usize];
+            let shown = numbers.iter().map(|&number| shown(counts[number]));
+            println!("{:<12}{}", format!("{kind:?}"), shown.collect::<String>());
         }
+    }
+
+    fn print_cells(&self) {
         let heads = ["insert", "update", "delete"].map(|name| format!("{name:>8}"));
         println!("cells of the source's tables, the first row and then the second");
         println!("{:<24}{}{}", "", heads.concat(), heads.concat());
-        for ((name, _), rows) in TABLES.iter().zip(&self.cells) {
-            let counts = rows.as_flattened().iter();
-            let shown: Vec<String> = counts.map(|&count| shown(count)).collect();
-            println!("{name:<24}{}", shown.concat());
+        for ((name, ..), rows) in TABLES.iter().zip(&self.cells) {
+            let shown = rows.as_flattened().iter().map(|&count| shown(count));
+            println!("{name:<24}{}", shown.collect::<String>());
         }
         let [empty, deleted] = self.taken;
         println!("No conflicting tuple: {empty} empty and {deleted} deleted slots taken");
     }
+
+    fn print_rare(&self) {
+        println!("rare cases of a put; a table is full that has no slot to take");
+        for (&count, (name, _)) in self.rare.iter().zip(RARE) {
+            println!("{}  {name}", shown(count));
+        }
+    }
+}
+
+/// The column of an operation in a decision table.
+fn column(operation: i64) -> usize {
+    (operation - INSERT) as usize
 }
 
 fn slot_of(before: &Lent, key: Key) -> Option<Slot> {

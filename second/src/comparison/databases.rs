@@ -1,5 +1,5 @@
 //! Demand 3: the committed databases, followed by accepted changes alone and
-//! never read off the table, and what reads and inserts must answer by them.
+//! never read off the table, and what reads and puts must answer by them.
 
 use crate::model::call::{Call, OUT_WORDS, Out};
 use crate::model::refusal::Refusal;
@@ -19,8 +19,12 @@ pub struct Tally {
     pub expired: usize,
     /// sessions whose every slot was read
     pub scans: usize,
-    pub inserts: usize,
+    /// puts of lawful totals in a run
+    pub puts: usize,
+    /// puts that were refused as full
     pub full: usize,
+    /// puts of a key that a database holds, where there is no room for another
+    pub held: usize,
 }
 
 /// The databases of one history from a fresh table and a fresh record.
@@ -72,11 +76,8 @@ impl Followed {
             Call::ReadSlot { session, slot } => self.read_slot(session, slot, out),
             Call::ReadKey { session, key } => self.read_key(session, key, out),
             Call::RollUp { session, one } => self.roll_up(session, one, out),
-            Call::Insert { key, totals } => self.insert(key, totals, out),
-            Call::Update { key, totals } => {
-                self.accept(out, |database| database.insert(key, totals))
-            }
-            Call::Delete { key } => self.accept(out, |database| database.remove(&key)),
+            Call::Put { key, totals } => self.put(key, totals, out),
+            Call::Delete { key } if out[0] == ACCEPTED => self.delete(key),
             _ => Ok(()),
         }
     }
@@ -96,17 +97,10 @@ impl Followed {
         })
     }
 
-    fn accept<T>(
-        &mut self,
-        out: &Out,
-        change: impl FnOnce(&mut Database) -> Option<T>,
-    ) -> Result<(), String> {
-        if out[0] != ACCEPTED {
-            return Ok(());
-        }
-        let running = self.running.as_mut().ok_or("a change with no run")?;
-        let live = change(running).is_some();
-        expect(live, || "a change of a key that is not live".to_string())
+    fn delete(&mut self, key: Key) -> Result<(), String> {
+        let running = self.running.as_mut().ok_or("a delete with no run")?;
+        let live = running.remove(&key).is_some();
+        expect(live, || "a delete of a key that is not live".to_string())
     }
 
     /// The database that the session reads, if the session is a committed version
@@ -175,28 +169,29 @@ impl Followed {
         })
     }
 
-    fn insert(&mut self, key: Key, totals: Totals, out: &Out) -> Result<(), String> {
+    /// In a run, a put of lawful totals is refused as full exactly when both
+    /// databases leave no room and neither holds the key. Else it is accepted.
+    fn put(&mut self, key: Key, totals: Totals, out: &Out) -> Result<(), String> {
         let (Some(running), Some(current)) = (&mut self.running, self.committed.last()) else {
-            return Ok(());
+            return expect(out[0] != ACCEPTED, || "a put with no run".to_string());
         };
-        if running.contains_key(&key) || !is_lawful(totals) {
-            return expect(out[0] != ACCEPTED, || "accepted".to_string());
+        if !is_lawful(totals) {
+            return expect(out[0] != ACCEPTED, || "totals out of range".to_string());
         }
-        let held = running.len()
-            + current
-                .keys()
-                .filter(|key| !running.contains_key(key))
-                .count();
-        let full = held == self.slots && !current.contains_key(&key);
-        self.tally.inserts += 1;
+        let keys = count_keys(running, current);
+        let no_room = keys == self.slots;
+        let held = running.contains_key(&key) || current.contains_key(&key);
+        let full = no_room && !held;
+        self.tally.puts += 1;
         self.tally.full += usize::from(full);
+        self.tally.held += usize::from(no_room && held);
         let right = if full {
             Refusal::NoSlotToTake.number()
         } else {
             ACCEPTED
         };
         expect(out[0] == right, || {
-            format!("both databases hold {held} keys, of {} slots", self.slots)
+            format!("both databases hold {keys} keys, of {} slots", self.slots)
         })?;
         if !full {
             running.insert(key, totals);
@@ -211,9 +206,16 @@ impl AddAssign for Tally {
         self.reads += other.reads;
         self.expired += other.expired;
         self.scans += other.scans;
-        self.inserts += other.inserts;
+        self.puts += other.puts;
         self.full += other.full;
+        self.held += other.held;
     }
+}
+
+/// The number of keys that two databases hold together.
+fn count_keys(one: &Database, other: &Database) -> usize {
+    let beside = other.keys().filter(|key| !one.contains_key(key));
+    one.len() + beside.count()
 }
 
 fn expect(right: bool, because: impl FnOnce() -> String) -> Result<(), String> {

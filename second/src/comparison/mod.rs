@@ -6,6 +6,7 @@ pub mod caller;
 pub mod calls;
 pub mod coverage;
 pub mod databases;
+pub mod rare;
 pub mod report;
 pub mod shrink;
 pub mod steps;

@@ -12,24 +12,76 @@ use std::thread;
 /// Input lines are shown no longer than this.
 const MOST_SHOWN: usize = 200;
 
-/// Compares so many inputs, and answers the number of lines.
-pub fn compare(program: &str, random: &mut Random, inputs: usize) -> Result<usize, String> {
-    let mut lines = 0;
-    let mut all = vec![
-        Vec::new(),
-        b"\n".to_vec(),
-        figures::STEPS_INPUT.as_bytes().to_vec(),
-        steps_input::long_input(random),
-        steps_input::long_input(random),
-    ];
+/// Lines that must be met: a letter before the fields of a put, and what is printed.
+const MUST_MEET: [(&str, &str); 4] = [
+    ("P", "slot"),
+    ("P", "refused 12"),
+    ("I", steps::BAD_LINE),
+    ("U", steps::BAD_LINE),
+];
+
+/// What was compared and agreed.
+#[derive(Default)]
+pub struct Found {
+    lines: usize,
+    met: [usize; MUST_MEET.len()],
+}
+
+impl Found {
+    /// Counts the lines of an input.
+    fn add(&mut self, input: &[u8]) {
+        let lines = steps::lines(input);
+        self.lines += lines.len();
+        for (line, printed) in lines.into_iter().zip(steps::output(input).lines()) {
+            self.count(line, printed);
+        }
+    }
+
+    fn count(&mut self, line: &[u8], printed: &str) {
+        for (count, (letter, answer)) in self.met.iter_mut().zip(MUST_MEET) {
+            *count += usize::from(is_put_but_for(letter, line) && printed.starts_with(answer));
+        }
+    }
+
+    /// What can be reached and was not.
+    pub fn missing(&self) -> Vec<String> {
+        let met = self.met.iter().zip(MUST_MEET);
+        met.filter(|&(&count, _)| count == 0)
+            .map(|(_, (letter, answer))| format!("steps: {letter} answered by {answer}"))
+            .collect()
+    }
+
+    pub fn print(&self) {
+        let met = self.met.iter().zip(MUST_MEET);
+        let shown: Vec<String> = met
+            .map(|(count, (letter, answer))| format!("{letter} {answer}: {count}"))
+            .collect();
+        println!("answers to the fields of a put: {}", shown.join("; "));
+        println!("{} lines of the program steps agree", self.lines);
+    }
+}
+
+/// Whether the line has this letter, and with P in its place would ask for a put.
+fn is_put_but_for(letter: &str, line: &[u8]) -> bool {
+    line.strip_prefix(letter.as_bytes())
+        .is_some_and(|fields| steps::call_of(&[b"P", fields].concat()).is_some())
+}
+
+/// Compares so many inputs at random, after some that are given.
+pub fn compare(program: &str, random: &mut Random, inputs: usize) -> Result<Found, String> {
+    let mut found = Found::default();
+    let mut all = vec![Vec::new(), b"\n".to_vec()];
+    all.extend(figures::SESSIONS.map(|(input, _)| input.as_bytes().to_vec()));
+    all.push(steps_input::long_input(random));
+    all.push(steps_input::long_input(random));
     all.extend((0..inputs).map(|_| steps_input::input(random)));
     for input in all {
         if !agrees(program, &input).map_err(|error| format!("{program}: {error}"))? {
             return Err(difference(program, &input));
         }
-        lines += steps::lines(&input).len();
+        found.add(&input);
     }
-    Ok(lines)
+    Ok(found)
 }
 
 /// Whether the program ends well and prints what the model does.

@@ -40,8 +40,7 @@ pub enum Kind {
     ReadSlot,
     ReadKey,
     RollUp,
-    Insert,
-    Update,
+    Put,
     Delete,
     SaveHeader,
     SaveBlock,
@@ -50,15 +49,14 @@ pub enum Kind {
 }
 
 /// Every kind of call, in the order of their numbers.
-pub const KINDS: [Kind; 13] = [
+pub const KINDS: [Kind; 12] = [
     Kind::Open,
     Kind::Begin,
     Kind::Commit,
     Kind::ReadSlot,
     Kind::ReadKey,
     Kind::RollUp,
-    Kind::Insert,
-    Kind::Update,
+    Kind::Put,
     Kind::Delete,
     Kind::SaveHeader,
     Kind::SaveBlock,
@@ -74,8 +72,7 @@ pub enum Call {
     ReadSlot { session: i64, slot: u64 },
     ReadKey { session: i64, key: Key },
     RollUp { session: i64, one: i64 },
-    Insert { key: Key, totals: Totals },
-    Update { key: Key, totals: Totals },
+    Put { key: Key, totals: Totals },
     Delete { key: Key },
     SaveHeader,
     SaveBlock { number: u64 },
@@ -111,8 +108,7 @@ impl Call {
             Call::ReadSlot { .. } => Kind::ReadSlot,
             Call::ReadKey { .. } => Kind::ReadKey,
             Call::RollUp { .. } => Kind::RollUp,
-            Call::Insert { .. } => Kind::Insert,
-            Call::Update { .. } => Kind::Update,
+            Call::Put { .. } => Kind::Put,
             Call::Delete { .. } => Kind::Delete,
             Call::SaveHeader => Kind::SaveHeader,
             Call::SaveBlock { .. } => Kind::SaveBlock,
@@ -126,9 +122,7 @@ impl Call {
             Call::ReadSlot { session, slot } => [session, slot as i64, 0, 0],
             Call::ReadKey { session, key } => [session, key.one, key.two, 0],
             Call::RollUp { session, one } => [session, one, 0, 0],
-            Call::Insert { key, totals } | Call::Update { key, totals } => {
-                [key.one, key.two, totals[0], totals[1]]
-            }
+            Call::Put { key, totals } => [key.one, key.two, totals[0], totals[1]],
             Call::Delete { key } => [key.one, key.two, 0, 0],
             Call::SaveBlock { number } | Call::LoadBlock { number, .. } => [number as i64, 0, 0, 0],
             _ => [0; CALL_NUMBERS],
@@ -159,8 +153,7 @@ impl Call {
                 session: first,
                 one: second,
             },
-            Call::Insert { .. } => Call::Insert { key, totals },
-            Call::Update { .. } => Call::Update { key, totals },
+            Call::Put { .. } => Call::Put { key, totals },
             Call::Delete { .. } => Call::Delete { key },
             Call::SaveBlock { .. } => Call::SaveBlock {
                 number: first as u64,
@@ -222,14 +215,9 @@ impl fmt::Display for Call {
                 write!(to, "read key {} {} at session {session}", key.one, key.two)
             }
             Call::RollUp { session, one } => write!(to, "roll-up of {one} at session {session}"),
-            Call::Insert { key, totals } | Call::Update { key, totals } => {
-                let name = format!("{:?}", self.kind()).to_lowercase();
+            Call::Put { key, totals } => {
                 let [first, second] = totals;
-                write!(
-                    to,
-                    "{name} {} {}, totals {first} {second}",
-                    key.one, key.two
-                )
+                write!(to, "put {} {}, totals {first} {second}", key.one, key.two)
             }
             Call::Delete { key } => write!(to, "delete {} {}", key.one, key.two),
             Call::SaveHeader => write!(to, "save header"),

@@ -15,8 +15,7 @@ pub fn make_call(call: &Call, lent: &mut Lent) -> Outcome {
         Call::ReadSlot { session, slot } => read_slot(lent, *session, *slot),
         Call::ReadKey { session, key } => read_key(lent, *session, *key),
         Call::RollUp { session, one } => roll_up(lent, *session, *one),
-        Call::Insert { key, totals } => insert(lent, *key, *totals),
-        Call::Update { key, totals } => update(lent, *key, *totals),
+        Call::Put { key, totals } => put(lent, *key, *totals),
         Call::Delete { key } => delete(lent, *key),
         Call::SaveHeader => save_header(lent),
         Call::SaveBlock { number } => save_block(lent, *number),
@@ -120,13 +119,13 @@ fn lawful(totals: Totals) -> Result<(), Refusal> {
     }
 }
 
-fn insert(lent: &mut Lent, key: Key, totals: Totals) -> Outcome {
+fn put(lent: &mut Lent, key: Key, totals: Totals) -> Outcome {
     let version = running(lent)?;
     lawful(totals)?;
     let (place, slot) = match lent.table.keys_slot(key) {
         Some(place) => {
             let slot = lent.table.well_formed_slot(place, version)?;
-            (place, slot.inserted(version.run(), totals)?)
+            (place, slot.put(version.run(), totals))
         }
         None => {
             let place = lent.table.slot_to_take(version)?;
@@ -137,30 +136,12 @@ fn insert(lent: &mut Lent, key: Key, totals: Totals) -> Outcome {
     Ok(Answer::Slot(place))
 }
 
-/// Alters the key's slot, which must be there.
-fn alter(
-    lent: &mut Lent,
-    key: Key,
-    version: Version,
-    altered: impl Fn(Slot) -> Result<Slot, Refusal>,
-) -> Outcome {
-    let place = lent.table.keys_slot(key).ok_or(Refusal::KeyNotLive)?;
-    let slot = lent.table.well_formed_slot(place, version)?;
-    lent.table.write(place, &altered(slot)?);
-    Ok(Answer::Slot(place))
-}
-
-fn update(lent: &mut Lent, key: Key, totals: Totals) -> Outcome {
-    let version = running(lent)?;
-    lawful(totals)?;
-    alter(lent, key, version, |slot| {
-        slot.updated(version.run(), totals)
-    })
-}
-
 fn delete(lent: &mut Lent, key: Key) -> Outcome {
     let version = running(lent)?;
-    alter(lent, key, version, |slot| slot.deleted(version.run()))
+    let place = lent.table.keys_slot(key).ok_or(Refusal::KeyNotLive)?;
+    let slot = lent.table.well_formed_slot(place, version)?;
+    lent.table.write(place, &slot.deleted(version.run())?);
+    Ok(Answer::Slot(place))
 }
 
 /// Refusals 1, 2 and 7, which every save and the load of slots test first.

@@ -11,7 +11,6 @@ pub enum Refusal {
     RunActive = 7,
     NoRunActive = 8,
     LargestVersion = 9,
-    KeyLive = 10,
     KeyNotLive = 11,
     NoSlotToTake = 12,
     TotalOutOfRange = 13,
@@ -19,6 +18,25 @@ pub enum Refusal {
     BlockCheck = 15,
     BlockField = 16,
 }
+
+/// Every refusal, in the order of the numbers.
+pub const REFUSALS: [Refusal; 15] = [
+    Refusal::TableLength,
+    Refusal::VersionRecord,
+    Refusal::SessionUnknown,
+    Refusal::SessionExpired,
+    Refusal::NoSuchPlace,
+    Refusal::NotWellFormed,
+    Refusal::RunActive,
+    Refusal::NoRunActive,
+    Refusal::LargestVersion,
+    Refusal::KeyNotLive,
+    Refusal::NoSlotToTake,
+    Refusal::TotalOutOfRange,
+    Refusal::BlockLength,
+    Refusal::BlockCheck,
+    Refusal::BlockField,
+];
 
 impl Refusal {
     pub fn number(self) -> i64 {

@@ -120,26 +120,30 @@ impl Slot {
         }
     }
 
-    /// Table 2, the key's slot found.
-    pub fn inserted(self, run: i64, given: Totals) -> Result<Slot, Refusal> {
+    /// A put, the key's slot found: a live key follows Table 3, a deleted one
+    /// Table 2.
+    pub fn put(self, run: i64, given: Totals) -> Slot {
         if self.is_live() {
-            return Err(Refusal::KeyLive);
+            self.updated(run, given)
+        } else {
+            self.inserted(run, given)
         }
+    }
+
+    /// Table 2, the key's slot found. It is deleted.
+    fn inserted(self, run: i64, given: Totals) -> Slot {
         if self.run < run {
-            return Ok(Slot::new_insert(run, self.key, given));
+            return Slot::new_insert(run, self.key, given);
         }
-        Ok(Slot {
+        Slot {
             operation: UPDATE,
             current: given,
             ..self
-        })
+        }
     }
 
-    /// Table 3.
-    pub fn updated(self, run: i64, given: Totals) -> Result<Slot, Refusal> {
-        if !self.is_live() {
-            return Err(Refusal::KeyNotLive);
-        }
+    /// Table 3. The slot is live.
+    fn updated(self, run: i64, given: Totals) -> Slot {
         let mut slot = self;
         if self.run < run {
             slot.old = self.current;
@@ -147,7 +151,7 @@ impl Slot {
             slot.operation = UPDATE;
         }
         slot.current = given;
-        Ok(slot)
+        slot
     }
 
     /// Table 4.

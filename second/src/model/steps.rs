@@ -6,7 +6,7 @@ use crate::model::slot::Key;
 
 const SLOTS: usize = 8;
 const MOST_DIGITS: usize = 19;
-const BAD_LINE: &str = "bad line";
+pub const BAD_LINE: &str = "bad line";
 
 /// The lines of an input. A last line needs no newline.
 pub fn lines(input: &[u8]) -> Vec<&[u8]> {
@@ -40,18 +40,14 @@ fn answer_line(line: &[u8], lent: &mut Lent) -> String {
 }
 
 /// The call that a line asks for, if it is not a bad line.
-fn call_of(line: &[u8]) -> Option<Call> {
+pub fn call_of(line: &[u8]) -> Option<Call> {
     let mut fields = line.split(|&byte| byte == b' ');
     let letter = fields.next()?;
     let numbers: Vec<i64> = fields.map(number).collect::<Option<_>>()?;
     match (letter, numbers.as_slice()) {
         (b"B", []) => Some(Call::Begin),
         (b"C", []) => Some(Call::Commit),
-        (b"I", &[one, two, first, second]) => Some(Call::Insert {
-            key: Key { one, two },
-            totals: [first, second],
-        }),
-        (b"U", &[one, two, first, second]) => Some(Call::Update {
+        (b"P", &[one, two, first, second]) => Some(Call::Put {
             key: Key { one, two },
             totals: [first, second],
         }),

@@ -10,17 +10,23 @@ use Rattle.changes.specs.ChangeTests.{runningRefusal}
 use Rattle.changes.proofs.running_refusal.Statement.{statement}
 use Rattle.changes.proofs.running_refusal.Tie as tie
 
--- the start, from the place past the test of 1 and from that past the test of 2
-abbrev s1 : tie.Else1 → tie.Start
-s1 c = c .before .before
+-- the places past the test of 1 and past that of 2, and the way back from each
+abbrev Shaped : Type 0
+Shaped = tie.Else1
 
-abbrev s2 : tie.Else2 → tie.Start
-s2 c = s1 (c .before .before)
+abbrev Sound : Type 0
+Sound = tie.Else2
 
-past1 : (c : tie.Else1) → badTable (s1 c .args .table .now) ≡ false
+abbrev start : Shaped → tie.Start
+start c = c .before .before
+
+abbrev shaped : Sound → Shaped
+shaped c = c .before .before
+
+past1 : (c : Shaped) → badTable (start c .args .table .now) ≡ false
 past1 c = sym (c .before .bad-table .ensures) ∙ c .if1 .left
 
-past2 : (c : tie.Else2) → badRecord (s2 c .args .versions) ≡ false
+past2 : (c : Sound) → badRecord (start (shaped c) .args .versions) ≡ false
 past2 c = sym (c .before .bad-record .ensures) ∙ c .if2 .left
 
 is1 : tie.Need-returns
@@ -34,14 +40,14 @@ is2 c = sym (skip _ _ (past1 (c .before .before)) ∙ hit _ (sym (c .before .bad
 is8 : tie.Need-returns-3
 unfolding runningRefusal
 is8 c =
-    let e = c .before .before in
-    sym (skip _ _ (past1 (e .before .before)) ∙ skip _ _ (past2 e) ∙ hit _ (c .if3 .taken))
+    let sound = c .before .before in
+    sym (skip _ _ (past1 (shaped sound)) ∙ skip _ _ (past2 sound) ∙ hit _ (c .if3 .taken))
 
 none : tie.Need-returns-4
 unfolding runningRefusal
 none c =
-    let e = c .before .before in
-    sym (skip _ _ (past1 (e .before .before)) ∙ skip _ _ (past2 e) ∙ skip _ _ (c .if3 .left) ∙ done)
+    let sound = c .before .before in
+    sym (skip _ _ (past1 (shaped sound)) ∙ skip _ _ (past2 sound) ∙ skip _ _ (c .if3 .left) ∙ done)
 
 pub running-refusal-spec : {M : Type 1} → statement M
 running-refusal-spec = tie.close (tie.spec (λ c κs. search needs) is1 (λ c κs. search needs) is2 is8 none)

@@ -23,47 +23,37 @@ commits c =
     answered (arm .before .before .read-command .ensures) (arm .enum-told2 .given .1)
     refl (called .commit-by-value .ensures .versions) (search (called .commit-by-value .ensures .answer)) (replied .reply-turned2 .ensures)
 
-inserts : tie.Need-returns-3
-inserts c =
+puts : tie.Need-returns-3
+puts c =
     let replied = c .before .before in
     let called = replied .before .before .before in
     let words = called .before .before in
     let fits = words .known-told .given in
     let arm = words .before in
     answered (arm .before .before .read-command .ensures) (arm .key1 .given .1)
-    (search (needs, fits, called .insert .ensures .words)) refl (search (needs, fits, called .insert .ensures .answer)) (replied .reply-placed .ensures)
+    (search (needs, fits, called .put .ensures .words)) refl (search (needs, fits, called .put .ensures .answer)) (replied .reply-placed .ensures)
 
-updates : tie.Need-returns-4
-updates c =
+deletes : tie.Need-returns-4
+deletes c =
     let replied = c .before .before in
     let called = replied .before .before .before in
     let words = called .before .before in
     let fits = words .known-told2 .given in
     let arm = words .before in
     answered (arm .before .before .read-command .ensures) (arm .key12 .given .1)
-    (search (needs, fits, called .update .ensures .words)) refl (search (needs, fits, called .update .ensures .answer)) (replied .reply-placed2 .ensures)
+    (search (needs, fits, called .delete .ensures .words)) refl (search (needs, fits, called .delete .ensures .answer)) (replied .reply-placed2 .ensures)
 
-deletes : tie.Need-returns-5
-deletes c =
-    let replied = c .before .before in
-    let called = replied .before .before .before in
-    let words = called .before .before in
-    let fits = words .known-told3 .given in
-    let arm = words .before in
-    answered (arm .before .before .read-command .ensures) (arm .key13 .given .1)
-    (search (needs, fits, called .delete .ensures .words)) refl (search (needs, fits, called .delete .ensures .answer)) (replied .reply-placed3 .ensures)
-
-reads : tie.Need-returns-6
+reads : tie.Need-returns-5
 reads c =
     let replied = c .before .before in
     let called = replied .before .before in
     let words = called .before .before in
-    let fits = words .known-told4 .given in
+    let fits = words .known-told3 .given in
     let arm = words .before in
     answered (arm .before .before .read-command .ensures) (arm .session .given .1)
     refl refl (search (needs, fits, called .read-key .ensures .answer)) (replied .reply-seen .ensures)
 
-bad : tie.Need-returns-7
+bad : tie.Need-returns-6
 bad c =
     let replied = c .before .before in
     let arm = replied .before .before in
@@ -79,12 +69,10 @@ answer-spec =
     (λ c. search needs) (λ c κs. search needs) (λ c κs. search needs)
     (λ c. search needs) (λ c κs. search needs) (λ c κs. search needs)
     (λ c. search needs) (λ c κs. search needs) (λ c κs. search needs)
-    (λ c. search needs) (λ c κs. search needs) (λ c κs. search needs)
     (λ c. search needs) (λ c κs. search needs)
     (λ c. search needs) begins
     (λ c. search needs) commits
-    (λ c. search needs) (λ c. search needs) inserts
-    (λ c. search needs) (λ c. search needs) updates
+    (λ c. search needs) (λ c. search needs) puts
     (λ c. search needs) (λ c. search needs) deletes
     (λ c. search needs) (λ c. search needs) reads
     (λ c. search needs) bad)

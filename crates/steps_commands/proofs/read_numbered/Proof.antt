@@ -6,7 +6,7 @@ use Rattle.steps_commands.specs.CommandParts.{numberedOf}
 use Rattle.steps_commands.proofs.read_numbered.Statement.{statement}
 use Rattle.steps_commands.proofs.read_numbered.Tie as tie
 
-bad : tie.Need-returns-5
+bad : tie.Need-returns-4
 unfolding numberedOf
 bad c = search ne-eqb
 
@@ -15,8 +15,7 @@ unfolding numberedOf
 read-numbered-spec =
     tie.close
     (tie.spec
-    (λ c κs. search needs) (λ c κs. search needs) (λ c. search (eq-eqb, c .insert-of .ensures, c .before .read-four .ensures))
-    (λ c κs. search needs) (λ c κs. search needs) (λ c. search (eq-eqb, ne-eqb, c .update-of .ensures, c .before .read-four2 .ensures))
+    (λ c κs. search needs) (λ c κs. search needs) (λ c. search (eq-eqb, c .put-of .ensures, c .before .read-four .ensures))
     (λ c κs. search needs) (λ c κs. search needs) (λ c. search (eq-eqb, ne-eqb, c .delete-of .ensures, c .before .read-two .ensures))
     (λ c κs. search needs) (λ c κs. search needs) (λ c. search (eq-eqb, ne-eqb, c .read-of .ensures, c .before .read-three .ensures))
     bad)

@@ -1,8 +1,0 @@
--- `steps_commands::update_of`: the numbers go in as they are, and without them the command is bad. Assumes nothing.
-use borrow.Author.Needs.{needs}
-use Rattle.steps_commands.proofs.update_of.Statement.{statement}
-use Rattle.steps_commands.proofs.update_of.Tie as tie
-
-pub update-of-spec : {M : Type 1} → statement M
-update-of-spec =
-    tie.close (tie.spec (λ c. search needs) (λ c. search needs) (λ c. search needs) (λ c. search (needs, c .before .numbers .given .1)))
