@@ -1,5 +1,6 @@
-// Times each call of the library against the same call written by hand in C, and the reads against what a user would pick instead:
-// all in one process, the sides by turns, a median of many rounds for each. Before it is timed, each side's answer is compared.
+// Times each call of the library against the same call written by hand in C, and key reads, roll-ups and puts against what a user
+// would pick instead: all in one process, the sides by turns, a median of many rounds for each. Before it is timed, each side's
+// answer is compared.
 #include <pthread.h>
 #include <stdio.h>
 #include <stdlib.h>
@@ -12,7 +13,7 @@
 #include "timing.h"
 
 enum { RECORD_WORDS = 4, NAME_BYTES = 64, FEW = 8, SOME = 64, MANY = 1024, GROUP = 3, BLOCK = 1 };
-enum { NEW_FIRST = 1, NEW_SECOND = 2, CHANGED_SLOT = 1 };
+enum { CHANGED_SLOT = 1 };
 
 static const int64_t IDLE[RECORD_WORDS] = {CURRENT, 0, 0, 0}, ACTIVE[RECORD_WORDS] = {CURRENT, 1, 0, 0};
 
@@ -63,10 +64,16 @@ static void put_back(void) {
     memmove(at->table + from, at->kept + from, SLOT_WORDS * sizeof(int64_t));
 }
 
-static void probe_new(void) { probe_insert(at->table, words, ACTIVE, one, two, NEW_FIRST, NEW_SECOND, out), put_back(); }
-static void hand_new(void) { hand_insert(at->table, words, ACTIVE, one, two, NEW_FIRST, NEW_SECOND, out), put_back(); }
-static void probe_totals(void) { probe_update(at->table, words, ACTIVE, one, two, NEW_FIRST, NEW_SECOND, out), put_back(); }
-static void hand_totals(void) { hand_update(at->table, words, ACTIVE, one, two, NEW_FIRST, NEW_SECOND, out), put_back(); }
+static void probe_row(void) { probe_put(at->table, words, ACTIVE, one, two, NEW_FIRST, NEW_SECOND, out), put_back(); }
+static void hand_row(void) { hand_put(at->table, words, ACTIVE, one, two, NEW_FIRST, NEW_SECOND, out), put_back(); }
+
+// The slow writer, under the same lock.
+static void locked_row(void) {
+    pthread_rwlock_wrlock(&lock);
+    hand_row();
+    pthread_rwlock_unlock(&lock);
+}
+
 static void probe_gone(void) { probe_delete(at->table, words, ACTIVE, one, two, out), put_back(); }
 static void hand_gone(void) { hand_delete(at->table, words, ACTIVE, one, two, out), put_back(); }
 
@@ -219,19 +226,48 @@ static void slot_rows(void) {
         }
 }
 
-// Update and delete of the last row; then an insert of its key where it has gone, into the lowest free slot.
+// What a store puts and commits can be read.
+static void store_agrees(const char *call, const Store *store) {
+    store->begin();
+    store->put();
+    store->commit();
+    store->read_key();
+    must(out[MARK] == 1 && out[TOTAL_ONE] == NEW_FIRST && out[TOTAL_TWO] == NEW_SECOND, call);
+}
+
+// A put of the key that is lent. A store puts in a transaction that stays open, as the library does in a run; a new row is taken out
+// again, as the library's slot is put back.
+static void time_put(const char *call, int is_new) {
+    Body *sides[SIDES] = {probe_row, hand_row, locked_row};
+    agree(call, sides);
+    fill_stores();
+    for (int s = 0; s < SIDES; s++)
+        if (stores[s] != NULL) store_agrees(call, stores[s]);
+    fill_stores();
+    for (int s = 0; s < SIDES; s++) {
+        if (stores[s] == NULL) continue;
+        sides[s] = is_new ? stores[s]->put_new : stores[s]->put;
+        stores[s]->begin();
+    }
+    measure(call, "", sides);
+    for (int s = 0; s < SIDES; s++)
+        if (stores[s] != NULL) stores[s]->commit();
+}
+
+// Put and delete of the last row; then a put of its key where it has gone, into the lowest free slot.
 static void change_rows_of(Kind which, size_t count) {
     static const int64_t empty[SLOT_WORDS];
     char call[NAME_BYTES];
     fill(which, count);
+    session = CURRENT;
     ask_for(slots - 1);
-    snprintf(call, sizeof call, "update, %zu slots, the last", slots);
-    pair(call, "", probe_totals, hand_totals);
+    snprintf(call, sizeof call, "put, %zu slots, a live key", slots);
+    time_put(call, 0);
     snprintf(call, sizeof call, "delete, %zu slots, the last", slots);
     pair(call, "", probe_gone, hand_gone);
     for (size_t t = 0; t < tables_in_turn; t++) put_row(&places[t], slots - 1, empty);
-    snprintf(call, sizeof call, "insert, %zu slots, a new key", slots);
-    pair(call, "", probe_new, hand_new);
+    snprintf(call, sizeof call, "put, %zu slots, a new key", slots);
+    time_put(call, 1);
 }
 
 static void change_rows(void) {

@@ -23,8 +23,7 @@ enum {
     RUN_ACTIVE,
     NO_RUN,
     NO_VERSION_LEFT,
-    KEY_LIVE,
-    KEY_NOT_LIVE,
+    KEY_NOT_LIVE = 11,
     TABLE_FULL,
     BAD_TOTAL,
     NOT_BLOCK,
@@ -170,7 +169,8 @@ static int64_t change_refusal(size_t words, Version v, int64_t first, int64_t se
     return 0;
 }
 
-static void put_new(int64_t *x, int64_t run, int64_t one, int64_t two, int64_t first, int64_t second) {
+// Nothing of what stood in the slot stays.
+static void start_row(int64_t *x, int64_t run, int64_t one, int64_t two, int64_t first, int64_t second) {
     x[RUN] = run;
     x[OPERATION] = INSERT;
     x[KEY_ONE] = one;
@@ -188,72 +188,57 @@ static size_t free_slot(const int64_t *table, size_t slots, Version v) {
     return slots;
 }
 
-void hand_insert(int64_t *table, size_t words, const int64_t record[4], int64_t one, int64_t two, int64_t first, int64_t second, int64_t out[8]) {
-    Version v = version_of(record);
-    int64_t refusal = change_refusal(words, v, first, second);
-    clear(out, refusal);
-    if (refusal != 0) return;
-    size_t slots = words / SLOT_WORDS, k = key_slot(table, slots, one, two);
-    int64_t run = v.current + 1;
-    if (k < slots) {
-        int64_t *x = table + k * SLOT_WORDS;
-        if (!well_formed(x, v)) {
-            out[0] = BROKEN_SLOT;
-        } else if (x[OPERATION] != DELETE) {
-            out[0] = KEY_LIVE;
-        } else if (x[RUN] < run) {
-            put_new(x, run, one, two, first, second);
-        } else {
-            x[OPERATION] = UPDATE;
-            x[CURRENT_ONE] = first;
-            x[CURRENT_TWO] = second;
-        }
-    } else {
-        k = free_slot(table, slots, v);
-        if (k == slots)
-            out[0] = TABLE_FULL;
-        else
-            put_new(table + k * SLOT_WORDS, run, one, two, first, second);
-    }
-    if (out[0] == 0) out[1] = (int64_t)k;
-}
-
-// The slot of a live key, or the refusal in out.
-static int64_t *live_slot(int64_t *table, size_t words, Version v, int64_t one, int64_t two, int64_t out[8]) {
-    size_t slots = words / SLOT_WORDS, k = key_slot(table, slots, one, two);
-    if (k == slots) {
-        out[0] = KEY_NOT_LIVE;
-        return NULL;
-    }
-    int64_t *x = table + k * SLOT_WORDS;
-    out[0] = !well_formed(x, v) ? BROKEN_SLOT : x[OPERATION] == DELETE ? KEY_NOT_LIVE : 0;
-    if (out[0] != 0) return NULL;
-    out[1] = (int64_t)k;
-    return x;
-}
-
-void hand_update(int64_t *table, size_t words, const int64_t record[4], int64_t one, int64_t two, int64_t first, int64_t second, int64_t out[8]) {
+// Table 3 for a live key and Table 2 for any other: the run has its row already, or starts it anew, or saves the totals before it.
+void hand_put(int64_t *table, size_t words, const int64_t record[4], int64_t one, int64_t two, int64_t first, int64_t second, int64_t out[8]) {
     Version v = version_of(record);
     clear(out, change_refusal(words, v, first, second));
     if (out[0] != 0) return;
-    int64_t *x = live_slot(table, words, v, one, two, out);
-    if (x == NULL) return;
-    if (x[RUN] <= v.current) {
-        x[RUN] = v.current + 1;
-        x[OPERATION] = UPDATE;
-        x[OLD_ONE] = x[CURRENT_ONE];
-        x[OLD_TWO] = x[CURRENT_TWO];
+    size_t slots = words / SLOT_WORDS, k = key_slot(table, slots, one, two);
+    int64_t run = v.current + 1;
+    if (k == slots) {
+        k = free_slot(table, slots, v);
+        if (k == slots) {
+            out[0] = TABLE_FULL;
+            return;
+        }
+        start_row(table + k * SLOT_WORDS, run, one, two, first, second);
+    } else {
+        int64_t *x = table + k * SLOT_WORDS;
+        if (!well_formed(x, v)) {
+            out[0] = BROKEN_SLOT;
+            return;
+        }
+        if (x[RUN] == run) {
+            if (x[OPERATION] == DELETE) x[OPERATION] = UPDATE;
+            x[CURRENT_ONE] = first;
+            x[CURRENT_TWO] = second;
+        } else if (x[OPERATION] == DELETE) {
+            start_row(x, run, one, two, first, second);
+        } else {
+            x[RUN] = run;
+            x[OPERATION] = UPDATE;
+            x[OLD_ONE] = x[CURRENT_ONE];
+            x[OLD_TWO] = x[CURRENT_TWO];
+            x[CURRENT_ONE] = first;
+            x[CURRENT_TWO] = second;
+        }
     }
-    x[CURRENT_ONE] = first;
-    x[CURRENT_TWO] = second;
+    out[1] = (int64_t)k;
 }
 
 void hand_delete(int64_t *table, size_t words, const int64_t record[4], int64_t one, int64_t two, int64_t out[8]) {
     Version v = version_of(record);
     clear(out, change_refusal(words, v, 0, 0));
     if (out[0] != 0) return;
-    int64_t *x = live_slot(table, words, v, one, two, out);
-    if (x == NULL) return;
+    size_t slots = words / SLOT_WORDS, k = key_slot(table, slots, one, two);
+    if (k == slots) {
+        out[0] = KEY_NOT_LIVE;
+        return;
+    }
+    int64_t *x = table + k * SLOT_WORDS;
+    out[0] = !well_formed(x, v) ? BROKEN_SLOT : x[OPERATION] == DELETE ? KEY_NOT_LIVE : 0;
+    if (out[0] != 0) return;
+    out[1] = (int64_t)k;
     if (x[RUN] <= v.current) {
         x[RUN] = v.current + 1;
         x[OPERATION] = DELETE;

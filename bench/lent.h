@@ -1,5 +1,5 @@
-// What a timed call is lent: tables of one of two kinds, a session, a key, and eight words for the answer. Every body finds it
-// here, so that all are called alike.
+// What a timed call is lent: tables of one of two kinds, a session, a key, the totals to put, and eight words for the answer. Every
+// body finds it here, so that all are called alike.
 //
 // Uniform: one table, every slot an insert of one older run. Mixed: sixteen tables that are lent in turn, so that no branch is
 // learned; of their slots, in random order, 60 % are inserts, 25 % updates, 10 % deletes and 5 % empty, of all runs. The first and
@@ -10,7 +10,7 @@
 #include <stdint.h>
 
 enum { SLOT_WORDS = 8, MOST_SLOTS = 1024, MOST_WORDS = MOST_SLOTS * SLOT_WORDS, BLOCK_BYTES = 512, OUT_WORDS = 8 };
-enum { GROUPS = 8, TABLES = 16, CURRENT = 4 };
+enum { GROUPS = 8, TABLES = 16, CURRENT = 4, NEW_FIRST = 1, NEW_SECOND = 2 };
 
 typedef enum { UNIFORM, MIXED } Kind;
 

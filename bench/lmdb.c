@@ -1,4 +1,5 @@
-// LMDB: keys with the high byte first, so that a group's rows stand together, and a read transaction that is renewed.
+// LMDB: keys with the high byte first, so that a group's rows stand together, a read transaction that is renewed, and one write
+// transaction for all puts of a row.
 #include <lmdb.h>
 #include <string.h>
 
@@ -8,7 +9,7 @@ enum { WORD_BYTES = 8, KEY_BYTES = 2 * WORD_BYTES, BYTE_BITS = 8, OWNER_ONLY = 0
 
 static MDB_env *environment;
 static MDB_dbi sales;
-static MDB_txn *reading;
+static MDB_txn *reading, *writing;
 static MDB_cursor *cursor;
 
 static void put_word(uint8_t *to, int64_t word) {
@@ -20,19 +21,23 @@ static void put_key(uint8_t key[KEY_BYTES], int64_t first, int64_t second) {
     put_word(key + WORD_BYTES, second);
 }
 
+static void lmdb_begin(void) { must(mdb_txn_begin(environment, NULL, 0, &writing) == 0, "mdb_txn_begin"); }
+static void lmdb_commit(void) { must(mdb_txn_commit(writing) == 0, "mdb_txn_commit"); }
+
+static void put(Row row) {
+    uint8_t bytes[KEY_BYTES];
+    int64_t totals[] = {row.first, row.second};
+    put_key(bytes, row.one, row.two);
+    MDB_val key = {sizeof bytes, bytes}, value = {sizeof totals, totals};
+    must(mdb_put(writing, sales, &key, &value, 0) == 0, "mdb_put");
+}
+
 static void write_rows(const Row *rows, size_t count) {
-    MDB_txn *writing;
-    must(mdb_txn_begin(environment, NULL, 0, &writing) == 0, "mdb_txn_begin");
+    lmdb_begin();
     must(mdb_dbi_open(writing, NULL, MDB_CREATE, &sales) == 0, "mdb_dbi_open");
     must(mdb_drop(writing, sales, 0) == 0, "mdb_drop");
-    for (size_t k = 0; k < count; k++) {
-        uint8_t bytes[KEY_BYTES];
-        int64_t totals[] = {rows[k].first, rows[k].second};
-        put_key(bytes, rows[k].one, rows[k].two);
-        MDB_val key = {sizeof bytes, bytes}, value = {sizeof totals, totals};
-        must(mdb_put(writing, sales, &key, &value, 0) == 0, "mdb_put");
-    }
-    must(mdb_txn_commit(writing) == 0, "mdb_txn_commit");
+    for (size_t k = 0; k < count; k++) put(rows[k]);
+    lmdb_commit();
 }
 
 static void lmdb_fill(const Row *rows, size_t count, const char *folder) {
@@ -81,4 +86,14 @@ static void lmdb_roll_up(void) {
     out[SUM_TWO] = second;
 }
 
-const Store lmdb_store = {"LMDB", lmdb_fill, lmdb_read_key, lmdb_roll_up};
+static void lmdb_put(void) { put((Row){one, two, NEW_FIRST, NEW_SECOND}); }
+
+static void lmdb_put_new(void) {
+    uint8_t bytes[KEY_BYTES];
+    lmdb_put();
+    put_key(bytes, one, two);
+    MDB_val key = {sizeof bytes, bytes};
+    must(mdb_del(writing, sales, &key, NULL) == 0, "mdb_del");
+}
+
+const Store lmdb_store = {"LMDB", lmdb_fill, lmdb_read_key, lmdb_roll_up, lmdb_begin, lmdb_put, lmdb_put_new, lmdb_commit};

@@ -5,7 +5,7 @@
 #include "stores.h"
 
 static sqlite3 *base;
-static sqlite3_stmt *by_key, *by_group;
+static sqlite3_stmt *by_key, *by_group, *upsert, *take_out;
 
 static sqlite3_stmt *prepared(const char *text) {
     sqlite3_stmt *statement;
@@ -13,32 +13,37 @@ static sqlite3_stmt *prepared(const char *text) {
     return statement;
 }
 
+static void execute(const char *text) { must(sqlite3_exec(base, text, 0, 0, 0) == SQLITE_OK, text); }
+
 static void open_anew(void) {
     if (base != NULL) {
         sqlite3_finalize(by_key);
         sqlite3_finalize(by_group);
+        sqlite3_finalize(upsert);
+        sqlite3_finalize(take_out);
         sqlite3_close(base);
     }
     must(sqlite3_open(":memory:", &base) == SQLITE_OK, "sqlite3_open");
-    const char *create = "CREATE TABLE sales (one INT, two INT, first INT, second INT, PRIMARY KEY (one, two)) WITHOUT ROWID";
-    must(sqlite3_exec(base, create, 0, 0, 0) == SQLITE_OK, "CREATE");
+    execute("CREATE TABLE sales (one INT, two INT, first INT, second INT, PRIMARY KEY (one, two)) WITHOUT ROWID");
+    by_key = prepared("SELECT first, second FROM sales WHERE one = ? AND two = ?");
+    by_group = prepared("SELECT count(*), sum(first), sum(second) FROM sales WHERE one = ?");
+    upsert = prepared("INSERT INTO sales VALUES (?, ?, ?, ?) ON CONFLICT (one, two) DO UPDATE SET first = excluded.first, second = excluded.second");
+    take_out = prepared("DELETE FROM sales WHERE one = ? AND two = ?");
+}
+
+static void put(Row row) {
+    sqlite3_bind_int64(upsert, 1, row.one);
+    sqlite3_bind_int64(upsert, 2, row.two);
+    sqlite3_bind_int64(upsert, 3, row.first);
+    sqlite3_bind_int64(upsert, 4, row.second);
+    must(sqlite3_step(upsert) == SQLITE_DONE, "INSERT");
+    sqlite3_reset(upsert);
 }
 
 static void sqlite_fill(const Row *rows, size_t count, const char *folder) {
     (void)folder;
     open_anew();
-    sqlite3_stmt *insert = prepared("INSERT INTO sales VALUES (?, ?, ?, ?)");
-    for (size_t k = 0; k < count; k++) {
-        sqlite3_bind_int64(insert, 1, rows[k].one);
-        sqlite3_bind_int64(insert, 2, rows[k].two);
-        sqlite3_bind_int64(insert, 3, rows[k].first);
-        sqlite3_bind_int64(insert, 4, rows[k].second);
-        must(sqlite3_step(insert) == SQLITE_DONE, "INSERT");
-        sqlite3_reset(insert);
-    }
-    sqlite3_finalize(insert);
-    by_key = prepared("SELECT first, second FROM sales WHERE one = ? AND two = ?");
-    by_group = prepared("SELECT count(*), sum(first), sum(second) FROM sales WHERE one = ?");
+    for (size_t k = 0; k < count; k++) put(rows[k]);
 }
 
 static void sqlite_read_key(void) {
@@ -65,4 +70,16 @@ static void sqlite_roll_up(void) {
     sqlite3_reset(by_group);
 }
 
-const Store sqlite_store = {"SQLite", sqlite_fill, sqlite_read_key, sqlite_roll_up};
+static void sqlite_begin(void) { execute("BEGIN"); }
+static void sqlite_commit(void) { execute("COMMIT"); }
+static void sqlite_put(void) { put((Row){one, two, NEW_FIRST, NEW_SECOND}); }
+
+static void sqlite_put_new(void) {
+    sqlite_put();
+    sqlite3_bind_int64(take_out, 1, one);
+    sqlite3_bind_int64(take_out, 2, two);
+    must(sqlite3_step(take_out) == SQLITE_DONE, "DELETE");
+    sqlite3_reset(take_out);
+}
+
+const Store sqlite_store = {"SQLite", sqlite_fill, sqlite_read_key, sqlite_roll_up, sqlite_begin, sqlite_put, sqlite_put_new, sqlite_commit};

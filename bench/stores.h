@@ -1,5 +1,5 @@
 // What a user would pick instead of the library, beside a lock: SQLite in memory and LMDB, each used as its manual advises for many
-// small reads. Each holds the rows that it is given, and leaves its answer as the library does.
+// small calls. Each holds the rows that it is given, and a read leaves its answer as the library does.
 #ifndef STORES_H
 #define STORES_H
 #include "lent.h"
@@ -12,12 +12,12 @@ typedef struct {
 enum { MARK = 1, KEY_ONE, KEY_TWO, TOTAL_ONE, TOTAL_TWO };
 enum { COUNT = 1, SUM_ONE, SUM_TWO };
 
-// `fill` takes the rows in place of what was held; a folder is given for files. The two bodies read the key and roll up the group
-// that are lent.
+// `fill` takes the rows in place of what was held; a folder is given for files. The bodies read the key and roll up the group that
+// are lent, and put the totals at the key; `put_new` takes the row out again. Puts are made between `begin` and `commit`.
 typedef struct {
     const char *name;
     void (*fill)(const Row *rows, size_t count, const char *folder);
-    Body *read_key, *roll_up;
+    Body *read_key, *roll_up, *begin, *put, *put_new, *commit;
 } Store;
 
 // Those that are there; bench/run leaves out what is missing.
