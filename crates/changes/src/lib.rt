@@ -7,8 +7,8 @@ ghost use Rattle.changes.specs.Delete.{DeleteContract};
 use changes_rows::Placed;
 use versions::VersionRecord;
 
-// The refusals that begin every change's: 1, 2, 8; 0 for none.
-fn running_refusal(table: &[i64], versions: VersionRecord) -> u32
+// The refusals that begin every change's, asked one by one: 1, 2, 8; 0 for none.
+fn tested_refusal(table: &[i64], versions: VersionRecord) -> u32
     ensures { λ r. ⌜ r ≡ runningRefusal (now (table .entry)) versions ⌝ }
 {
     if table::bad_table(table) {
@@ -21,6 +21,16 @@ fn running_refusal(table: &[i64], versions: VersionRecord) -> u32
         return refusals::NO_RUN;
     }
     0
+}
+
+// The same. In a run that is plainly active, of a table of a lawful shape, one expression tells that there is none.
+fn running_refusal(table: &[i64], versions: VersionRecord) -> u32
+    ensures { λ r. ⌜ r ≡ runningRefusal (now (table .entry)) versions ⌝ }
+{
+    if !table::bad_table(table) & versions::is_plainly_running(versions) {
+        return 0;
+    }
+    tested_refusal(table, versions)
 }
 
 // Put: 1, 2, 8, 13, 6, 12.

@@ -1,11 +1,11 @@
--- A session that passes the tests that every read begins with is open; and what they make of a list that begins with them. Assumes
--- nothing.
-use mathlib.Core.Path.{_≡_}
+-- A session that passes the tests that every read begins with is open, and one that is open passes them; and what they make of a
+-- list that begins with them. Assumes nothing.
+use mathlib.Core.Path.{_≡_, _∙_}
 use mathlib.Core.Bool.{Bool, false}
 use mathlib.Core.List.{List, _++_}
 use Prim.Native.Nat.{ℕ}
 use lib.IntN.{ℤ}
-use Rattle.laws.specs.FirstLaws.{none, pass, stop}
+use Rattle.laws.specs.FirstLaws.{none, skip, done, pass, stop}
 use Rattle.laws.specs.First.{first}
 use Rattle.versions.specs.declared.VersionRecord.{VersionRecord}
 use Rattle.versions.specs.Record.{badRecord}
@@ -25,6 +25,11 @@ unfolding sessionRefusal
 opened t v s h =
     let no = none _ tt h in
     record { table = no 1; known = no 2; born = no 3; kept = no 4 }
+
+-- and where one is open, none of them applies
+pub open-passes : {t : List ℤ} {v : VersionRecord} {s : ℤ} → Open t v s → sessionRefusal t v s ≡ 0
+unfolding sessionRefusal
+open-passes o = skip 1 _ (o .table) ∙ skip 2 _ (o .known) ∙ skip 3 _ (o .born) ∙ skip 4 _ (o .kept) ∙ done
 
 -- ---- a list that begins with them: one of them refuses, or it is as the tests after them say
 module _ (t : List ℤ) (v : VersionRecord) (s : ℤ) (l : List (Bool × ℕ)) where

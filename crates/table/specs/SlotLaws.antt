@@ -15,7 +15,7 @@ use Rattle.laws.specs.TestLaws.{none-at, not-no, by-test}
 use Rattle.laws.specs.Tests.{any}
 use Rattle.laws.specs.Stores.{sets-before, sets-past, sets-within, by-groups}
 use Rattle.table.specs.declared.Slot.{Slot}
-use Rattle.table.specs.Slots.{slotWords, mostSlots, slots, badTable, wordsOf, empty, word, slotAt, putSlot, freshTable}
+use Rattle.table.specs.Slots.{slotWords, mostSlots, slots, badTable, wordsOf, empty, word, slotAt, putSlot, freshTable, key1Place, key2Place}
 
 -- ---- the lengths of a table that is not refused
 pub record Lengths (t : List ℤ) : Type 0 where
@@ -59,11 +59,11 @@ pub operation-at : (t : List ℤ) (k : ℕ) → slotAt t k .operation ≡ word t
 unfolding slotAt
 operation-at t k = refl
 
-pub key1-at : (t : List ℤ) (k : ℕ) → slotAt t k .key1 ≡ word t (k * slotWords + 2)
+pub key1-at : (t : List ℤ) (k : ℕ) → slotAt t k .key1 ≡ word t (k * slotWords + key1Place)
 unfolding slotAt
 key1-at t k = refl
 
-pub key2-at : (t : List ℤ) (k : ℕ) → slotAt t k .key2 ≡ word t (k * slotWords + 3)
+pub key2-at : (t : List ℤ) (k : ℕ) → slotAt t k .key2 ≡ word t (k * slotWords + key2Place)
 unfolding slotAt
 key2-at t k = refl
 

@@ -46,13 +46,20 @@ empty = record { run = pos 0; operation = pos 0; key1 = pos 0; key2 = pos 0; cur
 abbrev pub word : List ℤ → ℕ → ℤ
 word t i = getD t i (pos 0)
 
+-- the places of the two key words in a slot
+abbrev pub key1Place : ℕ
+key1Place = 2
+
+abbrev pub key2Place : ℕ
+key2Place = 3
+
 -- the slot at a place, empty past the end
 unfoldable pub slotAt : List ℤ → ℕ → Slot
 slotAt t k = record {
   run = word t (k * slotWords);
   operation = word t (k * slotWords + 1);
-  key1 = word t (k * slotWords + 2);
-  key2 = word t (k * slotWords + 3);
+  key1 = word t (k * slotWords + key1Place);
+  key2 = word t (k * slotWords + key2Place);
   current1 = word t (k * slotWords + 4);
   current2 = word t (k * slotWords + 5);
   old1 = word t (k * slotWords + 6);

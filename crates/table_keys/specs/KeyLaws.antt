@@ -2,12 +2,16 @@
 -- Assumes nothing.
 use mathlib.Core.Path.{_≡_, refl, ap}
 use mathlib.Core.Bool.{true, false, not}
+use mathlib.Core.Logic.{inl, inr}
 use mathlib.Core.List.{List}
 use Prim.Native.Nat.{ℕ, _+_, _≤_, _<_}
 use native.Mathlib.Nat.{lt-of-lt-of-le}
-use lib.Dec.{ltb}
+use lib.Dec.{ltb, lit<}
 use borrow.Author.Tests.{ltb-true, ltb-false}
 use lib.IntN.{ℤ}
+use mir.Syntax.{w64}
+use mir.Val.{SFits, toZ, ofZ}
+use Rattle.laws.specs.Bits.{plain}
 use Rattle.laws.specs.TestLaws.{all-at, by-test, clash, not-yes, all-yes, all-no}
 use Rattle.laws.specs.OrderLaws.{eqZ-true, eqZ-same}
 use Rattle.laws.specs.Order.{eqZ}
@@ -15,16 +19,22 @@ use Rattle.laws.specs.Below.{four-more}
 use Rattle.laws.specs.LowestLaws.{lowest-is}
 use Rattle.laws.specs.Lowest.{Lowest}
 use Rattle.table.specs.declared.Slot.{Slot}
-use Rattle.table.specs.Slots.{badTable, slots, slotAt, empty}
-use Rattle.table.specs.SlotLaws.{slotAt-past}
+use Rattle.table.specs.Slots.{slotWords, badTable, slots, slotAt, empty}
+use Rattle.table.specs.SlotLaws.{slotAt-past, key1-at, key2-at}
 use Rattle.table_forms.specs.Operations.{emptyOperation}
 use Rattle.table_forms.specs.OperationLaws.{dead-empty}
+use Rattle.table_keys.specs.declared.KeyWord.{KeyWord}
 use Rattle.table_keys.specs.Keys.{hasKey, keySlot, keyed, keyLive}
-use Rattle.table_keys.specs.KeySearch.{Keyless, FourApart}
+use Rattle.table_keys.specs.KeySearch.{Keyless, IsKeyWord, Apart, FourApart}
 
 pub keySlot-is : (t : List ℤ) (key1 key2 : ℤ) → Lowest (λ k. hasKey (slotAt t k) key1 key2) (slots t) (keySlot t key1 key2)
 unfolding keySlot
 keySlot-is t key1 key2 = lowest-is _ _
+
+-- what is lowest by a key's bits is so by the key
+pub lowest-plain : (t : List ℤ) {key1 key2 : ℤ} → SFits w64 key1 → SFits w64 key2 → {n r : ℕ}
+    → Lowest (λ j. hasKey (slotAt t j) (toZ w64 (ofZ w64 key1)) (toZ w64 (ofZ w64 key2))) n r → Lowest (λ j. hasKey (slotAt t j) key1 key2) n r
+lowest-plain t f g l = rw (plain _ f, plain _ g) at l
 
 -- a slot that has a key: its operation and its two key words
 pub record Keyed (x : Slot) (p q : ℤ) : Type 0 where
@@ -41,15 +51,20 @@ pub keyed-has : {x : Slot} {key1 key2 : ℤ} → Keyed x key1 key2 → hasKey x 
 unfolding hasKey
 keyed-has k = all-yes _ (ap not (k .used), (eqZ-same (k .key1), (eqZ-same (k .key2), tt)))
 
--- a slot with another second key word has not the key
-pub other-key : (x : Slot) (key1 key2 : ℤ) → eqZ (x .key2) key2 ≡ false → hasKey x key1 key2 ≡ false
+-- a slot whose compared word is another has not the key
+apart-keyless : (t : List ℤ) {c : KeyWord} {key1 key2 : ℤ} → IsKeyWord c key1 key2 → (k : ℕ) → Apart t k c → hasKey (slotAt t k) key1 key2 ≡ false
 unfolding hasKey
-other-key x key1 key2 h = all-no _ 2 h
+apart-keyless t (inl second) k h = all-no _ 2 (rw (key2-at t k) (rw second at h))
+apart-keyless t (inr first) k h = all-no _ 1 (rw (key1-at t k) (rw first at h))
 
-pub past-four : {t : List ℤ} {k : ℕ} {key2 : ℤ} (key1 : ℤ) → FourApart t k key2 → Keyless t k key1 key2 → Keyless t (k + 4) key1 key2
-past-four {t} {key2 = key2} key1 f b =
+pub word-placed : {c : KeyWord} {key1 key2 : ℤ} → IsKeyWord c key1 key2 → c .place < slotWords
+word-placed (inl second) = rw second (lit< tt)
+word-placed (inr first) = rw first (lit< tt)
+
+pub past-four : {t : List ℤ} {k : ℕ} {c : KeyWord} {key1 key2 : ℤ} → IsKeyWord c key1 key2 → FourApart t k c → Keyless t k key1 key2 → Keyless t (k + 4) key1 key2
+past-four {t} {key1} {key2} w f b =
     four-more {P = λ i. hasKey (slotAt t i) key1 key2 ≡ false} b
-    (other-key _ key1 key2 (f .first)) (other-key _ key1 key2 (f .second)) (other-key _ key1 key2 (f .third)) (other-key _ key1 key2 (f .fourth))
+    (apart-keyless t w _ (f .first)) (apart-keyless t w _ (f .second)) (apart-keyless t w _ (f .third)) (apart-keyless t w _ (f .fourth))
 
 -- the empty slot has no key
 pub empty-keyless : (key1 key2 : ℤ) → hasKey empty key1 key2 ≡ false

@@ -1,6 +1,7 @@
 -- The version record: the largest version, the fresh record, refusal 2, and the run numbers that follow from a record. Only this
 -- crate unfolds `badRecord`; what it means outside is `Sound` of `RecordLaws`. RULES.md, The version record. Assumes nothing.
-use mathlib.Core.Bool.{Bool, false, cond, not, _&&_}
+use mathlib.Core.Path.{_≡_}
+use mathlib.Core.Bool.{Bool, true, false, cond, not, _&&_}
 use mathlib.Core.List.{[], _∷_}
 use lib.IntN.{ℤ, pos, _+ℤ_}
 use Rattle.laws.specs.Tests.{any}
@@ -33,3 +34,8 @@ runNumber v = v .current +ℤ pos 1
 -- a run number is at most current, or current + 1 while a run is active
 abbrev pub lastRun : VersionRecord → ℤ
 lastRun v = cond (v .active) (runNumber v) (v .current)
+
+-- a run is active, of a record that is not refused
+pub record ActiveRun (v : VersionRecord) : Type 0 where
+  pub known : badRecord v ≡ false
+  pub active : v .active ≡ true

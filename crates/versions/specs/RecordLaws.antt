@@ -4,8 +4,8 @@ use mathlib.Core.Path.{_≡_, refl, ap, ap₂}
 use mathlib.Core.Bool.{true, false, not, _&&_, _||_}
 use native.Mathlib.Omega.{arith}
 use lib.IntN.{ℤ, pos, negsuc, _+ℤ_}
-use lib.Signed.{leZ}
-use borrow.Author.Tests.{leb-true}
+use lib.Signed.{ltZ, leZ}
+use borrow.Author.Tests.{leb-true, ltb-true, le-leb, ne-eqb}
 use mir.Syntax.{w64}
 use mir.Val.{SFits}
 use Rattle.laws.specs.TestLaws.{none-at, not-no, by-test, clash}
@@ -31,6 +31,16 @@ sound {v} h =
 pub known : {v : VersionRecord} → Sound v → badRecord v ≡ false
 unfolding badRecord any
 known {v} s = ap₂ _||_ (ap not (ap₂ _&&_ (s .low) (s .high))) (by-test (v .active) (λ a. rw a (s .in-run a)) (λ a. rw a refl))
+
+-- as is one whose current is from 1 and below the largest version
+below : (c : ℤ) → leZ (pos 1) c ≡ true → ltZ c largestVersion ≡ true → (leZ c largestVersion ≡ true) × (eqZ c largestVersion ≡ false)
+below (pos n) low h =
+    let l = ltb-true n 1000000000 h in
+    (le-leb n 1000000000 (omega arith), ne-eqb n 1000000000 (λ e. omega arith))
+below (negsuc n) low h = clash low refl
+
+pub small-current : (v : VersionRecord) → leZ (pos 1) (v .current) ≡ true → ltZ (v .current) largestVersion ≡ true → badRecord v ≡ false
+small-current v low h = let b = below (v .current) low h in known (record { low = low; high = b .0; in-run = λ a. b .1 })
 
 -- the fresh record is one
 pub fresh-sound : badRecord freshRecord ≡ false

@@ -1,9 +1,9 @@
 -- The laws of open sessions: during a run the one open session is current; a session expires once the run two above it has
--- begun; so no run's number is above the next of an open session. Assumes nothing.
+-- begun; the session at current is open; no run's number is above the next of an open session. Assumes nothing.
 use mathlib.Core.Path.{_≡_, refl, sym, ap, _∙_}
 use mathlib.Core.Bool.{Bool, true, false, cond, _&&_, _||_}
 use mathlib.Core.List.{[], _∷_}
-use Prim.Native.Nat.{ℕ, zero, suc, _+_, _≤_}
+use Prim.Native.Nat.{ℕ, zero, suc, _+_, _≤_, _<_}
 use native.Mathlib.Omega.{arith}
 use lib.IntN.{ℤ, pos, negsuc, _+ℤ_, _-ℤ_}
 use lib.Signed.{ltZ, leZ}
@@ -16,7 +16,7 @@ use Rattle.laws.specs.Order.{eqZ}
 use Rattle.versions.specs.declared.VersionRecord.{VersionRecord}
 use Rattle.versions.specs.Record.{badRecord, lastRun}
 use Rattle.versions.specs.RecordLaws.{sound}
-use Rattle.versions.specs.Sessions.{unborn, expired}
+use Rattle.versions.specs.Sessions.{unborn, expired, OpenSession}
 
 -- ---- during a run the one open session is current
 near : (s c : ℤ) → leZ (pos 1) c ≡ true → ltZ s (pos 1) ≡ false → ltZ c s ≡ false → ltZ s (c -ℤ pos 1) ≡ false → eqZ s (c -ℤ pos 1) ≡ false → s ≡ c
@@ -62,6 +62,20 @@ near-expiry a (suc c) s l = rw (previous c) (go a)
 pub expires : (v : VersionRecord) (c s : ℕ) → v .current ≡ pos c → 1 ≤ c → expired v (pos s) ≡ leb (s + 2) (lastBegun (v .active) c)
 unfolding expired
 expires v c s e l = rw e (near-expiry (v .active) c s l)
+
+-- ---- the session at current is open
+pub at-current : (v : VersionRecord) → badRecord v ≡ false → OpenSession v (v .current)
+at-current v b = go (v .current) refl (sound b .low)
+  where
+    go : (c : ℤ) → v .current ≡ c → leZ (pos 1) c ≡ true → OpenSession v c
+    go (pos c) e l =
+        let low = leb-true 1 c l in
+        record { known = b; born = born v c c e low (omega arith); kept = expires v c c e low ∙ lt-leb (c + 2) _ (begun (v .active) c) }
+      where
+        begun : (a : Bool) (c : ℕ) → lastBegun a c < c + 2
+        begun true c = omega arith
+        begun false c = omega arith
+    go (negsuc c) e l = clash l refl
 
 -- ---- an open session is not below the number before a run's, which is at most the last run's
 last-run : (v : VersionRecord) (c : ℕ) → v .current ≡ pos c → lastRun v ≡ pos (lastBegun (v .active) c)

@@ -1,11 +1,14 @@
--- Which sessions are open: refusals 3 and 4. Only this crate unfolds the two. RULES.md, Runs and sessions. Assumes nothing.
-use mathlib.Core.Bool.{Bool, _&&_}
+-- Which sessions are open: refusals 3 and 4, and where no test of a session applies. Only this crate unfolds the two refusals.
+-- RULES.md, Runs and sessions. Assumes nothing.
+use mathlib.Core.Path.{_≡_}
+use mathlib.Core.Bool.{Bool, false, _&&_}
 use mathlib.Core.List.{[], _∷_}
 use lib.IntN.{ℤ, pos, _-ℤ_}
 use lib.Signed.{ltZ}
 use Rattle.laws.specs.Tests.{any}
 use Rattle.laws.specs.Order.{eqZ}
 use Rattle.versions.specs.declared.VersionRecord.{VersionRecord}
+use Rattle.versions.specs.Record.{badRecord}
 
 -- 3: session below 1 or above current
 unfoldable pub unborn : VersionRecord → ℤ → Bool
@@ -17,3 +20,9 @@ expired v s =
     any (ltZ s (v .current -ℤ pos 1)
     ∷ (v .active && eqZ s (v .current -ℤ pos 1))
     ∷ [])
+
+-- no test of a record and a session applies: the session is open
+pub record OpenSession (v : VersionRecord) (s : ℤ) : Type 0 where
+  pub known : badRecord v ≡ false
+  pub born : unborn v s ≡ false
+  pub kept : expired v s ≡ false

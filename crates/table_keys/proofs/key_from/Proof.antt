@@ -1,18 +1,16 @@
 -- `table_keys::key_from`. The invariant: nothing below k has the key. The measure is how many slots are left before the
 -- end. Assumes nothing.
-use Prim.Native.Nat.{ℕ, _-_}
+use Prim.Native.Nat.{_-_}
 use mathlib.Core.Path.{sym, _∙_}
-use mathlib.Core.List.{List}
 use native.Mathlib.Omega.{arith}
-use lib.IntN.{ℤ}
 use mir.Syntax.{w64}
-use mir.Val.{toZ, ofZ}
+use mir.Val.{toZ}
 use borrow.Author.Needs.{needs}
 use Rattle.laws.specs.Bits.{plain}
 use Rattle.laws.specs.LowestLaws.{below-next, found, exhausted}
-use Rattle.laws.specs.Lowest.{Lowest}
 use Rattle.table.specs.Slots.{slotAt}
 use Rattle.table_keys.specs.Keys.{hasKey}
+use Rattle.table_keys.specs.KeyLaws.{lowest-plain}
 use Rattle.table_keys.specs.KeySearch.{Keyless}
 use Rattle.table_keys.proofs.key_from.Statement.{statement}
 use Rattle.table_keys.proofs.key_from.Tie as tie
@@ -23,18 +21,13 @@ Inv-loop table from to key1 key2 k₀ k = Keyless table k (toZ w64 key1) (toZ w6
 abbrev μ-loop : tie.MeasureT-loop
 μ-loop table from to key1 key2 k₀ k = to - k
 
--- what is lowest by a key's bits is so by the key
-plainly : (c : tie.Start Inv-loop μ-loop) {n r : ℕ} (t : List ℤ) → Lowest (λ j. hasKey (slotAt t j) (toZ w64 (ofZ w64 (c .args .key1))) (toZ w64 (ofZ w64 (c .args .key2)))) n r
-    → Lowest (λ j. hasKey (slotAt t j) (c .args .key1) (c .args .key2)) n r
-plainly c t l = rw (plain _ (c .fits .key1), plain _ (c .fits .key2)) at l
-
 holds : tie.Need-loop-holds Inv-loop μ-loop
 holds c = rw (plain _ (c .fits .key1), plain _ (c .fits .key2)) (c .pre .1 .1)
 
 returns : tie.Need-returns Inv-loop μ-loop
 returns c =
     let l = c .before .before .before in
-    plainly (l .before) _ (found (l .loop .inv) (omega arith) (sym (c .before .has-key .ensures) ∙ c .if1 .taken))
+    lowest-plain _ (l .before .fits .key1) (l .before .fits .key2) (found (l .loop .inv) (omega arith) (sym (c .before .has-key .ensures) ∙ c .if1 .taken))
 
 again : tie.Need-loop-again Inv-loop μ-loop
 again c =
@@ -42,7 +35,7 @@ again c =
     below-next {p = λ j. hasKey (slotAt (l .before .args .table .now) j) _ _} (l .loop .inv) (sym (c .before .has-key .ensures) ∙ c .if1 .left)
 
 returns-2 : tie.Need-returns-2 Inv-loop μ-loop
-returns-2 c = plainly (c .before .before) _ (exhausted (c .before .loop .inv) (omega arith))
+returns-2 c = lowest-plain _ (c .before .before .fits .key1) (c .before .before .fits .key2) (exhausted (c .before .loop .inv) (omega arith))
 
 pub key-from-spec : {M : Type 1} → statement M
 key-from-spec =
