@@ -15,6 +15,9 @@
 enum { RECORD_WORDS = 4, NAME_BYTES = 64, FEW = 8, SOME = 64, MANY = 1024, GROUP = 3, BLOCK = 1 };
 enum { CHANGED_SLOT = 1 };
 
+// A key word that no slot of a dated table has.
+enum { NO_WORD = MOST_SLOTS };
+
 static const int64_t IDLE[RECORD_WORDS] = {CURRENT, 0, 0, 0}, ACTIVE[RECORD_WORDS] = {CURRENT, 1, 0, 0};
 
 static const struct {
@@ -23,6 +26,28 @@ static const struct {
 } SESSIONS[] = {{"current", CURRENT}, {"current - 1", CURRENT - 1}};
 
 static const Kind KINDS[] = {UNIFORM, MIXED};
+static const size_t COUNTS[] = {FEW, SOME, MANY};
+
+// How many dates the slots of a dated table have, and in which order the slots stand. The names begin with that of the kind.
+static const struct {
+    const char *name;
+    size_t dates;
+    int shuffled;
+} PATTERNS[] = {
+    {"dates, all different", MOST_SLOTS, 0},
+    {"dates, all different shuffled", MOST_SLOTS, 1},
+    {"dates, 32", 32, 0},
+    {"dates, 32 shuffled", 32, 1},
+    {"dates, 4", 4, 0},
+    {"dates, 4 shuffled", 4, 1},
+    {"dates, 1", 1, 0},
+    {"dates, 1 shuffled", 1, 1},
+};
+
+// What is asked of a dated table.
+typedef enum { HIT_FIRST, HIT_LAST, ABSENT_BY_DATE, ABSENT_BY_KEY_ONE, ASKED_KEYS } Asked;
+static const char *const ASKED_NAMES[] = {"hit first", "hit last", "absent by date", "absent by key one"};
+
 static const char *folder;
 static const Store *stores[SIDES];
 static pthread_rwlock_t lock = PTHREAD_RWLOCK_INITIALIZER;
@@ -188,32 +213,46 @@ static void group_rows(const char *at_session) {
     row(call, at_session, sides);
 }
 
-// The rows of a read, for every kind and size of table and both sessions.
+// The rows of a read, for uniform and mixed tables of every size and both sessions.
 static void read_rows(void (*rows)(const char *at_session)) {
-    const size_t counts[] = {FEW, SOME, MANY};
     for (size_t k = 0; k < COUNT_OF(KINDS); k++)
-        for (size_t c = 0; c < COUNT_OF(counts); c++)
+        for (size_t c = 0; c < COUNT_OF(COUNTS); c++)
             for (size_t s = 0; s < COUNT_OF(SESSIONS); s++) {
-                fill(KINDS[k], counts[c]);
+                fill(KINDS[k], COUNTS[c]);
                 session = SESSIONS[s].version;
                 fill_stores();
                 rows(SESSIONS[s].name);
             }
 }
 
-// Tables in which the second key word repeats, as a date does: it no longer tells slots apart by itself.
-static void date_rows(void) {
-    const size_t counts[] = {SOME, MANY}, dates[] = {32, 4, 1};
-    session = SESSIONS[0].version;
-    for (size_t c = 0; c < COUNT_OF(counts); c++)
-        for (size_t d = 0; d < COUNT_OF(dates); d++) {
-            char call[NAME_BYTES];
-            fill(UNIFORM, counts[c]);
-            repeat_dates(dates[d]);
-            one = (int64_t)((slots - 1) / dates[d]);
-            two = (int64_t)((slots - 1) % dates[d]);
-            snprintf(call, sizeof call, "read the last of %zu, dates %zu", slots, dates[d]);
-            pair(call, SESSIONS[0].name, probe_key, hand_key);
+// Asks for the key of the first slot or of the last, or for that of the last with another date or another first key word, which no
+// slot has.
+static void ask_dated(Asked asked) {
+    const int64_t *row = at->table + (asked == HIT_FIRST ? 0 : slots - 1) * SLOT_WORDS;
+    one = asked == ABSENT_BY_KEY_ONE ? NO_WORD : row[SLOT_KEY_ONE];
+    two = asked == ABSENT_BY_DATE ? NO_WORD : row[SLOT_KEY_TWO];
+}
+
+// One row for all patterns of dates, so that the table stays readable.
+static void dated_row(size_t count, Asked asked, const char *at_session) {
+    Body *const sides[SIDES] = {probe_key, hand_key};
+    Range range = NO_RATIO;
+    char call[NAME_BYTES];
+    snprintf(call, sizeof call, "read a key, %zu slots, %s", count, ASKED_NAMES[asked]);
+    for (size_t p = 0; p < COUNT_OF(PATTERNS); p++) {
+        fill_dated(count, PATTERNS[p].dates, PATTERNS[p].shuffled);
+        ask_dated(asked);
+        agree(call, sides);
+        take_in(&range, call, PATTERNS[p].name, at_session, sides);
+    }
+    show_range(call, at_session, range);
+}
+
+static void dated_rows(void) {
+    for (size_t c = 0; c < COUNT_OF(COUNTS); c++)
+        for (size_t s = 0; s < COUNT_OF(SESSIONS); s++) {
+            session = SESSIONS[s].version;
+            for (Asked asked = HIT_FIRST; asked < ASKED_KEYS; asked++) dated_row(COUNTS[c], asked, SESSIONS[s].name);
         }
 }
 
@@ -296,8 +335,8 @@ int main(int count, char **given) {
     find_stores();
     show_heads(lines);
     read_rows(key_rows);
+    dated_rows();
     read_rows(group_rows);
-    date_rows();
     slot_rows();
     change_rows();
     block_rows();

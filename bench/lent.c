@@ -4,7 +4,6 @@
 #include <string.h>
 
 enum { INSERT = 1, UPDATE, DELETE };
-enum { SLOT_KEY_ONE = 2, SLOT_KEY_TWO = 3 };
 enum { FIRST_RUN = 2, HUNDRED = 100, INSERTS = 60, UPDATES = 25, DELETES = 10 };
 enum { LOW_BITS = 33 };
 
@@ -72,9 +71,26 @@ void fill(Kind which, size_t count) {
     lend(0);
 }
 
-void repeat_dates(size_t dates) {
-    for (size_t k = 0; k < slots; k++) {
-        at->table[k * SLOT_WORDS + SLOT_KEY_ONE] = (int64_t)(k / dates);
-        at->table[k * SLOT_WORDS + SLOT_KEY_TWO] = (int64_t)(k % dates);
+// The numbers of the rows, in order or shuffled: from the last down each changes places with one that is not above it.
+static void draw_order(size_t *order, int shuffled) {
+    for (size_t k = 0; k < slots; k++) order[k] = k;
+    for (size_t k = slots; shuffled && k-- > 1;) {
+        size_t other = (size_t)drawn((int64_t)k + 1), moved = order[k];
+        order[k] = order[other];
+        order[other] = moved;
     }
+}
+
+static void give_key(const Lent *to, size_t slot, size_t key_one, size_t key_two) {
+    size_t from = slot * SLOT_WORDS;
+    to->table[from + SLOT_KEY_ONE] = to->kept[from + SLOT_KEY_ONE] = (int64_t)key_one;
+    to->table[from + SLOT_KEY_TWO] = to->kept[from + SLOT_KEY_TWO] = (int64_t)key_two;
+}
+
+void fill_dated(size_t count, size_t dates, int shuffled) {
+    static size_t order[MOST_SLOTS];
+    fill(UNIFORM, count);
+    kind = DATED;
+    draw_order(order, shuffled);
+    for (size_t k = 0; k < slots; k++) give_key(at, k, order[k] / dates, order[k] % dates);
 }

@@ -1,14 +1,17 @@
 // How a row is timed and shown.
 #include "timing.h"
 
+#include <float.h>
 #include <stdlib.h>
 #include <time.h>
 
 enum { ROUNDS = 301, FIRST_REPEATS = 100, BATCH_NANOSECONDS = 20000 };
 
 static const double NANOSECONDS = 1e9;
-static const char *const KIND_NAMES[] = {"uniform", "mixed"};
+static const char *const KIND_NAMES[] = {"uniform", "mixed", "dates"};
 static FILE *file;
+
+const Range NO_RATIO = {DBL_MAX, 0};
 
 static double now(void) {
     struct timespec t;
@@ -61,9 +64,14 @@ static void take_medians(Body *const sides[SIDES], double medians[SIDES]) {
         if (sides[s] != NULL) medians[s] = median(times[s]);
 }
 
+// The first three columns of the table.
+static void show_begin(const char *name, const char *table, const char *at_session) {
+    printf("%-41s %-8s %-11s", name, table, at_session);
+}
+
 void show_heads(FILE *lines) {
     file = lines;
-    printf("%-34s %-8s %-11s", "nanoseconds (library / it)", "table", "session");
+    show_begin("nanoseconds (library / it)", "table", "session");
     fprintf(file, "call\ttable\tsession");
     for (int s = 0; s < SIDES; s++)
         if (columns[s] != NULL) {
@@ -74,24 +82,52 @@ void show_heads(FILE *lines) {
     fprintf(file, "\n");
 }
 
-void measure(const char *name, const char *at_session, Body *const sides[SIDES]) {
-    double medians[SIDES] = {0};
-    take_medians(sides, medians);
-    printf("%-34s %-8s %-11s", name, KIND_NAMES[kind], at_session);
-    fprintf(file, "%s\t%s\t%s", name, KIND_NAMES[kind], at_session);
+// A cell for each column that there is, empty where the row has not its side.
+static void write_line(const char *name, const char *table, const char *at_session, Body *const sides[SIDES],
+                       const double medians[SIDES]) {
+    fprintf(file, "%s\t%s\t%s", name, table, at_session);
     for (int s = 0; s < SIDES; s++) {
         if (columns[s] == NULL) continue;
-        if (sides[s] == NULL) {
+        if (sides[s] == NULL)
             fprintf(file, "\t");
-            continue;
-        }
+        else
+            fprintf(file, "\t%.3f", medians[s]);
+    }
+    fprintf(file, "\n");
+}
+
+static void show_row(const char *name, const char *at_session, Body *const sides[SIDES], const double medians[SIDES]) {
+    show_begin(name, KIND_NAMES[kind], at_session);
+    for (int s = 0; s < SIDES; s++) {
+        if (columns[s] == NULL || sides[s] == NULL) continue;
         if (s == LIBRARY)
             printf(" %9.1f", medians[s]);
         else
             printf(" %9.1f (%5.2f)", medians[s], medians[LIBRARY] / medians[s]);
-        fprintf(file, "\t%.3f", medians[s]);
     }
     printf("\n");
-    fprintf(file, "\n");
+    fflush(stdout);
+}
+
+void measure(const char *name, const char *at_session, Body *const sides[SIDES]) {
+    double medians[SIDES] = {0};
+    take_medians(sides, medians);
+    write_line(name, KIND_NAMES[kind], at_session, sides, medians);
+    show_row(name, at_session, sides, medians);
+}
+
+void take_in(Range *range, const char *name, const char *table, const char *at_session, Body *const sides[SIDES]) {
+    double medians[SIDES] = {0};
+    take_medians(sides, medians);
+    write_line(name, table, at_session, sides, medians);
+    double ratio = medians[LIBRARY] / medians[HAND];
+    if (ratio < range->least) range->least = ratio;
+    if (ratio > range->most) range->most = ratio;
+}
+
+// The two ratios end where the C's ratio of the other rows does; the times of many tables are not shown.
+void show_range(const char *name, const char *at_session, Range range) {
+    show_begin(name, KIND_NAMES[kind], at_session);
+    printf(" %9s    (%.2f to %.2f)\n", "", range.least, range.most);
     fflush(stdout);
 }
