@@ -8,28 +8,25 @@ use lib.IntN.{ℤ}
 use Rattle.laws.specs.FirstLaws.{none, skip, done, pass, stop}
 use Rattle.laws.specs.First.{first}
 use Rattle.versions.specs.declared.VersionRecord.{VersionRecord}
-use Rattle.versions.specs.Record.{badRecord}
-use Rattle.versions.specs.Sessions.{unborn, expired}
+use Rattle.versions.specs.Sessions.{OpenSession}
 use Rattle.table.specs.Slots.{badTable}
 use Rattle.reads.specs.SessionTests.{sessionTests, sessionRefusal}
 
 -- ---- where none of them is given
 pub record Open (t : List ℤ) (v : VersionRecord) (s : ℤ) : Type 0 where
   pub table : badTable t ≡ false
-  pub known : badRecord v ≡ false
-  pub born : unborn v s ≡ false
-  pub kept : expired v s ≡ false
+  pub session : OpenSession v s
 
 pub opened : (t : List ℤ) (v : VersionRecord) (s : ℤ) → sessionRefusal t v s ≡ 0 → Open t v s
 unfolding sessionRefusal
 opened t v s h =
     let no = none _ tt h in
-    record { table = no 1; known = no 2; born = no 3; kept = no 4 }
+    record { table = no 1; session = record { known = no 2; born = no 3; kept = no 4 } }
 
 -- and where one is open, none of them applies
 pub open-passes : {t : List ℤ} {v : VersionRecord} {s : ℤ} → Open t v s → sessionRefusal t v s ≡ 0
 unfolding sessionRefusal
-open-passes o = skip 1 _ (o .table) ∙ skip 2 _ (o .known) ∙ skip 3 _ (o .born) ∙ skip 4 _ (o .kept) ∙ done
+open-passes o = skip 1 _ (o .table) ∙ skip 2 _ (o .session .known) ∙ skip 3 _ (o .session .born) ∙ skip 4 _ (o .session .kept) ∙ done
 
 -- ---- a list that begins with them: one of them refuses, or it is as the tests after them say
 module _ (t : List ℤ) (v : VersionRecord) (s : ℤ) (l : List (Bool × ℕ)) where

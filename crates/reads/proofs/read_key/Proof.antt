@@ -76,4 +76,4 @@ read-key-spec =
     (tie.spec (λ c κs. search needs) is1-to-4
     (λ c κs. can c .table)
     (λ c κs. search needs) absent
-    (λ c κs. can (allowed-to c) .table) (λ c κs. can (allowed-to (c .before)) .known) shows)
+    (λ c κs. can (allowed-to c) .table) (λ c κs. can (allowed-to (c .before)) .session .known) shows)

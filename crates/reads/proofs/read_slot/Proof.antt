@@ -64,4 +64,4 @@ read-slot-spec =
     tie.close
     (tie.spec (λ c κs. search needs) is1-to-4
     (λ c κs. search needs) is5
-    (λ c κs. can (c .before .before) .table) (λ c κs. can (c .before .before .before) .known) shows)
+    (λ c κs. can (c .before .before) .table) (λ c κs. can (c .before .before .before) .session .known) shows)

@@ -19,12 +19,7 @@ let-through c =
     let s = shaped .before in
     let tests = not (shaped .bad-table .result) ∷ asked .is-plainly-open .result ∷ [] in
     let session = rw (plain _ (s .fits .session)) at (asked .is-plainly-open .ensures (all-at tests 1 (c .if1 .taken))) in
-    sym (open-passes (record {
-      table = sym (shaped .bad-table .ensures) ∙ not-yes (all-at tests 0 (c .if1 .taken));
-      known = session .known;
-      born = session .born;
-      kept = session .kept;
-    }))
+    sym (open-passes (record { table = sym (shaped .bad-table .ensures) ∙ not-yes (all-at tests 0 (c .if1 .taken)); session = session }))
 
 tested : tie.Need-returns-2
 tested c =

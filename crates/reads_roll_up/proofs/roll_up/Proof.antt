@@ -137,7 +137,7 @@ roll-up-spec =
     (λ c κs. search needs)
     (λ c. (omega arith, refl, λ j h. absurd (omega arith)))
     (λ c κs. can (opens (c .before)) .table)
-    (λ c κs. can (opens (c .before .before)) .known) is6
+    (λ c κs. can (opens (c .before .before)) .session .known) is6
     small (λ c. omega arith) (λ c. omega arith)
     again
     rolls)

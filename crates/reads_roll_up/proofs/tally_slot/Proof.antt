@@ -27,15 +27,19 @@ other c = let b = c .before in sym (tallied-other _ _ _ _ (isnt _ _ (key1-fits b
 own : (c : tie.Else1) → let a = c .before .before .args in eqZ (a .x .key1) (a .key1) ≡ true
 own c = let b = c .before in is _ _ (key1-fits b) (b .before .fits .key1) (c .if1 .left)
 
-seen : (c : tie.After-show) → let a = c .before .before .before .args in c .show .result ≡ shown (a .session) (a .x)
-seen c = rw (plain _ (c .before .before .before .fits .session)) at (c .show .ensures)
+-- the start, from where the slot has been asked what it shows
+abbrev begun : tie.After-show → tie.Start
+begun c = c .before .before .before
+
+seen : (c : tie.After-show) → let a = begun c .args in c .show .result ≡ shown (a .session) (a .x)
+seen c = rw (plain _ (begun c .fits .session)) at (c .show .ensures)
 
 -- ---- a row: its four words
 abbrev shows : tie.After-known-told → tie.After-show
 shows c = c .before .before .before
 
 abbrev start : tie.After-known-told → tie.Start
-start c = shows c .before .before .before
+start c = begun (shows c)
 
 abbrev first : tie.After-known-told → ℤ
 first c = c .before .total1 .given .0 .1 .1 .0
@@ -67,12 +71,14 @@ add-first c =
 
 add-second : tie.Need-add-t13
 add-second c =
-    let b = c .before .before .before .before .before in
+    let added = c .before .before in
+    let b = added .before .before .before in
     simp (plain _ (before b .total2), plain _ (second-fits b)) (after b .total2)
 
 count : tie.Need-returns-2
 count c =
-    let b = c .before .before .before .before .before in
+    let added = c .before .before in
+    let b = added .before .before .before in
     let a = start b .args in
     rw (tallied-own (a .session) (a .key1) (a .x) (a .tally) (own (shows b .before)) (row b))
     (simp (
@@ -86,10 +92,10 @@ count c =
     ))
 
 none : tie.Need-returns-3
-none c = let a = c .before .before .before .before .before .args in ap (λ r. tallied (a .key1) r (a .tally)) (sym (c .enum-told .given .1) ∙ seen (c .before .before))
+none c = let a = begun (c .before .before) .args in ap (λ r. tallied (a .key1) r (a .tally)) (sym (c .enum-told .given .1) ∙ seen (c .before .before))
 
 refused : tie.Need-returns-4
-refused c = let a = c .before .before .before .before .before .args in ap (λ r. tallied (a .key1) r (a .tally)) (sym (c .enum-told2 .given .1) ∙ seen (c .before .before))
+refused c = let a = begun (c .before .before) .args in ap (λ r. tallied (a .key1) r (a .tally)) (sym (c .enum-told2 .given .1) ∙ seen (c .before .before))
 
 pub tally-slot-spec : {M : Type 1} → statement M
 tally-slot-spec =

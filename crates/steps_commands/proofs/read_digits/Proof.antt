@@ -16,6 +16,10 @@ Inv-loop field number₀ i₀ number i = (i ≤ length field) × Passed field i 
 abbrev μ-loop : tie.MeasureT-loop
 μ-loop field number₀ i₀ number i = length field - i
 
+-- the loop, from the place where a byte is known to be a digit or not
+abbrev loop-of : tie.After-is-digit Inv-loop μ-loop → tie.At-loop Inv-loop μ-loop
+loop-of c = c .before .before .before
+
 none : tie.Need-returns Inv-loop μ-loop
 none c = no-digits _ (omega arith)
 
@@ -24,23 +28,23 @@ many c = many-digits _ (omega arith)
 
 other : tie.Need-returns-3 Inv-loop μ-loop
 other c =
-    let l = c .before .before .before .before in
+    let l = loop-of (c .before) in
     other-digits _ (not-passed (l .loop .inv .1) (omega arith) (sym (c .before .is-digit .ensures) ∙ not-yes (c .if3 .taken)))
 
 mul-number : tie.Need-mul-number Inv-loop μ-loop
-mul-number c = let l = c .before .before .before .before in omega (arith, fits (l .loop .inv .1) (omega arith) (omega arith))
+mul-number c = let l = loop-of (c .before) in omega (arith, fits (l .loop .inv .1) (omega arith) (omega arith))
 
 digit : tie.Need-digit-of-requires Inv-loop μ-loop
 digit c κs = sym (c .before .is-digit .ensures) ∙ not-no (c .if3 .left)
 
 add-number : tie.Need-add-number Inv-loop μ-loop
 add-number c =
-    let l = c .before .before .before .before .before in
+    let l = loop-of (c .before .before) in
     omega (arith, fits (l .loop .inv .1) (omega arith) (omega arith), c .digit-of .ensures)
 
 loop-again : tie.Need-loop-again Inv-loop μ-loop
 loop-again c =
-    let l = c .before .before .before .before .before in
+    let l = loop-of (c .before .before) in
     (omega arith, rw (c .digit-of .ensures .0) (one-passed (l .loop .inv .1) (omega arith) (digit (c .before) _)))
 
 makes : tie.Need-returns-4 Inv-loop μ-loop

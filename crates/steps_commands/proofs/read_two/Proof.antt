@@ -13,7 +13,17 @@ use Rattle.steps_commands.proofs.read_two.Tie as tie
 bad : tie.Need-returns
 bad c = search (two-first, ← c .before .before .read-first .ensures, c .enum-told .given .1)
 
-first : (c : tie.After-known-told) → let z = c .before .one .given .0 in firstOf (c .before .before .before .before .before .args .line .now) ≡ Number (z .0) (z .1 .0)
+-- the place where the first number's two words are told, and the way back from it
+abbrev Told : Type 0
+Told = tie.After-known-told
+
+abbrev read : Told → tie.After-read-first
+read c = c .before .before .before
+
+abbrev begun : Told → tie.Start
+begun c = read c .before .before
+
+first : (c : Told) → let z = c .before .one .given .0 in firstOf (begun c .args .line .now) ≡ Number (z .0) (z .1 .0)
 first c = cc
 
 start : tie.Need-sub-read-number

@@ -14,7 +14,7 @@ use Rattle.laws.specs.TestLaws.{all-at, not-yes}
 use Rattle.laws.specs.Tests.{all}
 use Rattle.laws.specs.Order.{eqZ}
 use Rattle.laws.specs.Bits.{eq-bits}
-use Rattle.table.specs.Slots.{word}
+use Rattle.table.specs.Slots.{slotWords, word}
 use Rattle.table_keys.proofs.four_apart.Statement.{statement}
 use Rattle.table_keys.proofs.four_apart.Tie as tie
 
@@ -34,10 +34,10 @@ returns c h =
     let told = first .before in
     let s = told .before .before in
     let t = s .args .table .now in
-    let at = s .args .k * 8 + s .args .compared .place in
+    let at = s .args .k * slotWords + s .args .compared .place in
     let number = s .args .compared .number in
     let g : SFits w64 number = search needs in
-    let tests = differs t at number ∷ differs t (at + 8) number ∷ differs t (at + 16) number ∷ differs t (at + 24) number ∷ [] in
+    let tests = differs t at number ∷ differs t (at + slotWords) number ∷ differs t (at + 2 * slotWords) number ∷ differs t (at + 3 * slotWords) number ∷ [] in
     record {
       first = other t _ _ number (record { sfits = first .result .given }) g (omega arith) (all-at tests 0 h);
       second = other t _ _ number (record { sfits = second .result2 .given }) g (omega arith) (all-at tests 1 h);

@@ -1,11 +1,13 @@
 -- `versions_runs::commit_by_value`: the tests follow the definition's list, past refusal 2 (`past2`) and to the one that holds; past
 -- 8 the answer and the new current are the run's number, current + 1. Assumes nothing.
-use mathlib.Core.Path.{_≡_, refl, sym, ap, _∙_}
+use mathlib.Core.Path.{_≡_, sym, ap, _∙_}
 use mathlib.Core.Bool.{false}
 use native.Mathlib.Omega.{arith}
+use lib.IntN.{ℤ}
 use borrow.Author.Needs.{needs}
 use Rattle.laws.specs.FirstLaws.{hit, skip, done}
 use Rattle.laws.specs.Bits.{plain}
+use Rattle.versions.specs.declared.VersionRecord.{VersionRecord}
 use Rattle.versions_runs.specs.declared.Numbered.the-variants.{Version}
 use Rattle.versions.specs.Record.{badRecord}
 use Rattle.versions_runs.specs.Runs.{commitRefusal}
@@ -30,13 +32,17 @@ is8 c =
     let sound = idle .before .before in
     rw (c .kept2 .ensures) (commit-kept (skip _ _ (past2 sound) ∙ hit _ (idle .if2 .taken)) (omega arith))
 
+-- the record between runs, at a current version
+at-rest : ℤ → VersionRecord
+at-rest n = record { current = n; active = false }
+
 commits : tie.Need-returns-3
-unfolding commitRefusal
+unfolding commitRefusal at-rest
 commits c =
     let active = c .before in
     let sound = active .before .before in
     let next = plain _ (record { sfits = c .run-number .ok }) ∙ c .run-number .ensures in
-    commit-done (skip _ _ (past2 sound) ∙ skip _ _ (active .if2 .left) ∙ done) (ap Version next) (rw next refl)
+    commit-done (skip _ _ (past2 sound) ∙ skip _ _ (active .if2 .left) ∙ done) (ap Version next) (ap at-rest next)
 
 pub commit-by-value-spec : {M : Type 1} → statement M
 commit-by-value-spec =
