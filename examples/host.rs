@@ -3,8 +3,10 @@
 //!     rt staticlib probe
 //!     rustc --edition 2024 -L target/staticlib -l static=probe -o host examples/host.rs && ./host
 
-// include/probe.h as Rust has it, with the refusal that this host answers to. A call that takes references alone is safe; beside a pointer the length has to be right.
+// include/probe.h as Rust has it, with the refusal that this host answers to and the total that it gives. A call that takes references alone is safe; beside a pointer the length has to be right.
 const EXPIRED: i64 = 4;
+const LOWEST_TOTAL: i64 = -1_000_000_000_000_000;
+const NOT_REPORTED: i64 = LOWEST_TOTAL - 1;
 
 type Record = [i64; 4];
 type Out = [i64; 8];
@@ -41,13 +43,15 @@ fn answered([refusal, numbers @ ..]: Out) -> Result<[i64; 7], i64> {
     if refusal == 0 { Ok(numbers) } else { Err(refusal) }
 }
 
-/// A run that stores a total, and the version that it makes.
+/// A run that stores a day's total, and the next day's as not reported, and the version that it makes.
 fn refresh(host: &mut Host, total: i64) -> Result<i64, i64> {
     let mut out = Out::default();
     probe_begin(&mut host.record, &mut out);
     answered(out)?;
-    unsafe { probe_put(host.table.as_mut_ptr(), WORDS, &host.record, STORE, DAY, total, 0, &mut out) };
-    answered(out)?;
+    for (day, total) in [(DAY, total), (DAY + 1, NOT_REPORTED)] {
+        unsafe { probe_put(host.table.as_mut_ptr(), WORDS, &host.record, STORE, day, total, NOT_REPORTED, &mut out) };
+        answered(out)?;
+    }
     probe_commit(&mut host.record, &mut out);
     let [version, ..] = answered(out)?;
     Ok(version)
@@ -65,6 +69,25 @@ fn report(host: &Host, session: i64) -> Result<(), i64> {
     Ok(())
 }
 
+/// The mean of a total over the store's days, which a roll-up's answer has as a sum and how many reported it.
+fn report_mean(name: &str, reported: i64, sum: i64) {
+    if reported == 0 {
+        println!("{name}: none reported");
+    } else {
+        println!("{name}: mean {:.1} of {reported} that reported", sum as f64 / reported as f64);
+    }
+}
+
+fn report_means(host: &Host, session: i64) -> Result<(), i64> {
+    let mut out = Out::default();
+    unsafe { probe_roll_up(host.table.as_ptr(), WORDS, &host.record, session, STORE, &mut out) };
+    let [rows, reported1, reported2, sum1, sum2, ..] = answered(out)?;
+    println!("session {session} sums up {rows} rows");
+    report_mean("total one", reported1, sum1);
+    report_mean("total two", reported2, sum2);
+    Ok(())
+}
+
 /// A refusal that the host has no answer to ends it, by its number.
 fn main() -> Result<(), i64> {
     let mut host = Host { table: [0; WORDS], record: [1, 0, 0, 0] };
@@ -74,5 +97,6 @@ fn main() -> Result<(), i64> {
     report(&host, session)?;
     let latest = refresh(&mut host, 10300)?;
     report(&host, session)?;
-    report(&host, latest)
+    report(&host, latest)?;
+    report_means(&host, latest)
 }

@@ -45,9 +45,11 @@ enum probe_size {
     PROBE_LARGEST_VERSION = 1000000000
 };
 
-/* The range of a total. */
+/* The range of a total that is reported, and what is given and read in place of
+   one that is not: the number below the range. */
 #define PROBE_LOWEST_TOTAL ((int64_t)-1000000000000000)
 #define PROBE_HIGHEST_TOTAL ((int64_t)1000000000000000)
+#define PROBE_NOT_REPORTED (PROBE_LOWEST_TOTAL - 1)
 
 /* The record to begin with: int64_t record[PROBE_RECORD_WORDS] = PROBE_FRESH_RECORD; */
 #define PROBE_FRESH_RECORD {1, 0, 0, 0}
@@ -79,7 +81,8 @@ enum probe_refusal {
     PROBE_KEY_NOT_LIVE = 11,
     /* the key to put has no slot, and none is free */
     PROBE_TABLE_FULL = 12,
-    /* a given total is not from PROBE_LOWEST_TOTAL to PROBE_HIGHEST_TOTAL */
+    /* a given total is neither from PROBE_LOWEST_TOTAL to PROBE_HIGHEST_TOTAL nor
+       PROBE_NOT_REPORTED */
     PROBE_BAD_TOTAL = 13,
     /* the block is not PROBE_BLOCK_BYTES long */
     PROBE_NOT_BLOCK = 14,
@@ -103,8 +106,10 @@ enum probe_place {
     PROBE_TOTAL2 = 5,
     /* roll-up */
     PROBE_ROWS = 1,
-    PROBE_SUM1 = 2,
-    PROBE_SUM2 = 3,
+    PROBE_REPORTED1 = 2,
+    PROBE_REPORTED2 = 3,
+    PROBE_SUM1 = 4,
+    PROBE_SUM2 = 5,
     /* put, delete */
     PROBE_SLOT = 1,
     /* load header */
@@ -147,8 +152,9 @@ void probe_read_key(const int64_t *table, size_t words,
                     int64_t out[PROBE_OUT_WORDS]);
 
 /* Sums up the rows with a first key word that a session sees.
-   Answers PROBE_ROWS, how many there are, and PROBE_SUM1, PROBE_SUM2, the exact
-   sums of their totals.
+   Answers PROBE_ROWS, how many there are, PROBE_REPORTED1, PROBE_REPORTED2, how
+   many of them reported each total, and PROBE_SUM1, PROBE_SUM2, the exact sums
+   of what they reported, 0 where none did.
    Refuses PROBE_BAD_TABLE, PROBE_BAD_RECORD, PROBE_NO_SUCH_VERSION,
    PROBE_EXPIRED, PROBE_BROKEN_SLOT (any slot). */
 void probe_roll_up(const int64_t *table, size_t words,

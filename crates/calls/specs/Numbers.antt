@@ -28,10 +28,10 @@ ofSeen (seen.Row key1 key2 total1 total2) = pos 0 ∷ pos 1 ∷ key1 ∷ key2 �
 ofSeen seen.NoRow = pos 0 ∷ pos 0 ∷ pos 0 ∷ pos 0 ∷ pos 0 ∷ pos 0 ∷ []
 ofSeen (seen.Refused n) = pos n ∷ pos 0 ∷ pos 0 ∷ pos 0 ∷ pos 0 ∷ pos 0 ∷ []
 
--- roll-up: the count, and both sums
+-- roll-up: the count of rows, the rows that reported each total, and both sums
 abbrev pub ofRolled : Rolled → List ℤ
-ofRolled (rolled.Sums rows total1 total2) = pos 0 ∷ pos rows ∷ total1 ∷ total2 ∷ []
-ofRolled (rolled.Refused n) = pos n ∷ pos 0 ∷ pos 0 ∷ pos 0 ∷ []
+ofRolled (rolled.Sums rows reported1 reported2 sum1 sum2) = pos 0 ∷ pos rows ∷ pos reported1 ∷ pos reported2 ∷ sum1 ∷ sum2 ∷ []
+ofRolled (rolled.Refused n) = pos n ∷ pos 0 ∷ pos 0 ∷ pos 0 ∷ pos 0 ∷ pos 0 ∷ []
 
 -- a change: its slot number
 abbrev pub ofPlaced : Placed → List ℤ

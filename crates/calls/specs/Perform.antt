@@ -53,7 +53,7 @@ perform saveHeader st =
     done (saved (saveHeaderRefusal (st .words) (st .versions))) (withBlock st (saveHeaderBlock (st .words) (st .versions)))
 perform (saveBlock k) st =
     done (saved (saveBlockRefusal (st .words) (st .versions) k)) (withBlock st (saveBlockBlock (st .words) (st .versions) k))
-perform (loadHeader total2) st = done (header (loadHeaderAnswer total2)) (withBlock st total2)
-perform (loadBlock k total2) st =
-    done (loaded (loadBlockAnswer (st .words) (st .versions) k total2))
-    (withBlock (withWords st (loadBlockWords (st .words) (st .versions) k total2)) total2)
+perform (loadHeader given) st = done (header (loadHeaderAnswer given)) (withBlock st given)
+perform (loadBlock k given) st =
+    done (loaded (loadBlockAnswer (st .words) (st .versions) k given))
+    (withBlock (withWords st (loadBlockWords (st .words) (st .versions) k given)) given)

@@ -45,17 +45,19 @@ row key1 key2 total = pos 0 ∷ pos 1 ∷ pos key1 ∷ pos key2 ∷ pos total �
 abbrev pub none : List ℤ
 none = pos 0 ∷ pos 0 ∷ pos 0 ∷ pos 0 ∷ pos 0 ∷ pos 0 ∷ []
 
+-- a roll-up of rows that all reported both totals, total two 0
 abbrev pub sums : ℕ → ℕ → List ℤ
-sums count total = pos 0 ∷ pos count ∷ pos total ∷ pos 0 ∷ []
+sums rows total = pos 0 ∷ pos rows ∷ pos rows ∷ pos rows ∷ pos total ∷ pos 0 ∷ []
 
 abbrev pub readRefused : ℕ → List ℤ
 readRefused n = pos n ∷ pos 0 ∷ pos 0 ∷ pos 0 ∷ pos 0 ∷ pos 0 ∷ []
 
-abbrev pub rollUpRefused : ℕ → List ℤ
-rollUpRefused n = pos n ∷ pos 0 ∷ pos 0 ∷ pos 0 ∷ []
-
 abbrev pub changeRefused : ℕ → List ℤ
 changeRefused n = pos n ∷ pos 0 ∷ []
+
+-- −10^15 − 1: a total that is not reported
+abbrev pub unreported : ℤ
+unreported = negsuc 1000000000000000
 
 -- ---- the paper's Figure 4 in slots 0 to 3, slot 4 empty
 abbrev pub figure4 : List ℤ
@@ -95,7 +97,7 @@ sessions2and5 =
     figure4Read
     (readSlot (pos 2) 0 ∷ readKey (pos 2) (pos 1) (pos 19961014) ∷ rollUp (pos 2) (pos 1)
     ∷ readSlot (pos 5) 0 ∷ readKey (pos 5) (pos 1) (pos 19961014) ∷ rollUp (pos 5) (pos 1) ∷ [])
-    (readRefused 4 ∷ readRefused 4 ∷ rollUpRefused 4 ∷ readRefused 3 ∷ readRefused 3 ∷ rollUpRefused 3 ∷ [])
+    (readRefused 4 ∷ readRefused 4 ∷ readRefused 4 ∷ readRefused 3 ∷ readRefused 3 ∷ readRefused 3 ∷ [])
 
 -- ours: San Jose's roll-up at both sessions, an absent key, and a slot past the last
 abbrev pub rollUps : Case
@@ -110,7 +112,7 @@ afterBegin = record {
   words = figure4;
   versions = idleAt 4;
   calls = begin ∷ readSlot (pos 3) 0 ∷ readKey (pos 3) (pos 1) (pos 19961014) ∷ rollUp (pos 3) (pos 1) ∷ readSlot (pos 4) 0 ∷ [];
-  numbers = version 5 ∷ readRefused 4 ∷ readRefused 4 ∷ rollUpRefused 4 ∷ row 1 19961014 10000 ∷ [];
+  numbers = version 5 ∷ readRefused 4 ∷ readRefused 4 ∷ readRefused 4 ∷ row 1 19961014 10000 ∷ [];
   words-after = figure4;
   versions-after = runningAt 4;
 }
@@ -184,7 +186,8 @@ oneSlot = record {
   versions-after = runningAt 3;
 }
 
--- a total of 10^15 is accepted, 10^15 + 1 refused 13; and, ours, so at the other end, and of total two
+-- a total of 10^15 is accepted, 10^15 + 1 refused 13; and, ours, so at the other end, where −10^15 − 1 says that a total is not
+-- reported and 13 begins below it, and of total two
 abbrev pub totals : Case
 totals = record {
   words = zeros;
@@ -192,11 +195,13 @@ totals = record {
   calls = put (pos 1) (pos 19961014) (pos 1000000000000000) (pos 0)
       ∷ put (pos 1) (pos 19961014) (pos 1000000000000001) (pos 0)
       ∷ put (pos 1) (pos 19961014) (negsuc 999999999999999) (pos 1000000000000000)
-      ∷ put (pos 1) (pos 19961014) (negsuc 1000000000000000) (pos 0)
+      ∷ put (pos 1) (pos 19961014) unreported (negsuc 999999999999999)
+      ∷ put (pos 1) (pos 19961014) (negsuc 1000000000000001) (pos 0)
       ∷ put (pos 1) (pos 19961014) (pos 0) (pos 1000000000000001)
+      ∷ put (pos 1) (pos 19961014) (pos 0) (negsuc 1000000000000001)
       ∷ [];
-  numbers = at 0 ∷ changeRefused 13 ∷ at 0 ∷ changeRefused 13 ∷ changeRefused 13 ∷ [];
-  words-after = pos 2 ∷ pos 1 ∷ pos 1 ∷ pos 19961014 ∷ negsuc 999999999999999 ∷ pos 1000000000000000 ∷ pos 0 ∷ pos 0 ∷ [];
+  numbers = at 0 ∷ changeRefused 13 ∷ at 0 ∷ at 0 ∷ changeRefused 13 ∷ changeRefused 13 ∷ changeRefused 13 ∷ [];
+  words-after = pos 2 ∷ pos 1 ∷ pos 1 ∷ pos 19961014 ∷ unreported ∷ negsuc 999999999999999 ∷ pos 0 ∷ pos 0 ∷ [];
   versions-after = runningAt 1;
 }
 
@@ -209,6 +214,28 @@ correctedTwice = record {
       ∷ readKey (pos 2) (pos 1) (pos 19961014) ∷ rollUp (pos 2) (pos 1) ∷ commit ∷ readKey (pos 3) (pos 1) (pos 19961014) ∷ [];
   numbers = version 3 ∷ at 0 ∷ at 0 ∷ row 1 19961014 10000 ∷ sums 1 10000 ∷ version 3 ∷ row 1 19961014 10300 ∷ [];
   words-after = slot 3 2 1 19961014 10300 10000;
+  versions-after = idleAt 3;
+}
+
+-- ours: a roll-up leaves out what is not reported, and counts each row all the same. Day 14 reports both totals, day 15 total one
+-- alone, which is 0, and day 16 none; a row is read as it stands. Then run 3 takes total one of day 14 back as not reported, which
+-- a session at 2 does not see
+abbrev pub asReported : List ℤ
+asReported = pos 0 ∷ pos 3 ∷ pos 2 ∷ pos 1 ∷ pos 5 ∷ pos 7 ∷ []
+
+abbrev pub partlyReported : Case
+partlyReported = record {
+  words = zeros ++ zeros ++ zeros;
+  versions = runningAt 1;
+  calls = put (pos 1) (pos 14) (pos 5) (pos 7) ∷ put (pos 1) (pos 15) (pos 0) unreported ∷ put (pos 1) (pos 16) unreported unreported ∷ commit
+      ∷ rollUp (pos 2) (pos 1) ∷ readKey (pos 2) (pos 1) (pos 15)
+      ∷ begin ∷ put (pos 1) (pos 14) unreported (pos 8) ∷ rollUp (pos 2) (pos 1) ∷ commit ∷ rollUp (pos 2) (pos 1) ∷ rollUp (pos 3) (pos 1) ∷ [];
+  numbers = at 0 ∷ at 1 ∷ at 2 ∷ version 2
+      ∷ asReported ∷ (pos 0 ∷ pos 1 ∷ pos 1 ∷ pos 15 ∷ pos 0 ∷ unreported ∷ [])
+      ∷ version 3 ∷ at 0 ∷ asReported ∷ version 3 ∷ asReported ∷ (pos 0 ∷ pos 3 ∷ pos 1 ∷ pos 1 ∷ pos 0 ∷ pos 8 ∷ []) ∷ [];
+  words-after = pos 3 ∷ pos 2 ∷ pos 1 ∷ pos 14 ∷ unreported ∷ pos 8 ∷ pos 5 ∷ pos 7
+      ∷ pos 2 ∷ pos 1 ∷ pos 1 ∷ pos 15 ∷ pos 0 ∷ unreported ∷ pos 0 ∷ pos 0
+      ∷ pos 2 ∷ pos 1 ∷ pos 1 ∷ pos 16 ∷ unreported ∷ unreported ∷ pos 0 ∷ pos 0 ∷ [];
   versions-after = idleAt 3;
 }
 
@@ -226,4 +253,5 @@ cases =
     ∷ oneSlot
     ∷ totals
     ∷ correctedTwice
+    ∷ partlyReported
     ∷ []

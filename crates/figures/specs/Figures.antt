@@ -13,7 +13,7 @@ use Rattle.versions.specs.Sessions.{unborn, expired}
 use Rattle.versions_runs.specs.Runs.{beginRefusal, beginAnswer, beginRecord, commitRefusal, commitAnswer, commitRecord}
 use Rattle.table.specs.Slots.{badTable, slotAt, putSlot}
 use Rattle.table_forms.specs.Operations.{column, live}
-use Rattle.table_forms.specs.Totals.{lawful, unlawful}
+use Rattle.table_forms.specs.Totals.{lawful, reported, unlawful}
 use Rattle.table_forms.specs.Formed.{allZeros, totalsLawful, usedWell, wellFormed, anyBroken}
 use Rattle.table_keys.specs.Keys.{hasKey, keySlot}
 use Rattle.table_free.specs.Free.{longDeleted, free, freeSlot}
@@ -50,5 +50,5 @@ abbrev pub outcome : Case → Outcome
 outcome c = perform-all (c .calls) (record { words = c .words; versions = c .versions; block = [] })
 
 pub figures : map outcome cases ≡ map expected cases
-unfolding all any first lowest some badRecord unborn expired beginRefusal beginAnswer beginRecord commitRefusal commitAnswer commitRecord badTable slotAt putSlot column live lawful unlawful allZeros totalsLawful usedWell wellFormed anyBroken hasKey keySlot longDeleted free freeSlot shown readSlotRefusal readSlotAnswer readKeyRefusal readKeyAnswer rollUpRefusal rollUpAnswer changed putRefusal putAnswer putWords deleteRefusal deleteAnswer deleteWords
+unfolding all any first lowest some badRecord unborn expired beginRefusal beginAnswer beginRecord commitRefusal commitAnswer commitRecord badTable slotAt putSlot column live lawful reported unlawful allZeros totalsLawful usedWell wellFormed anyBroken hasKey keySlot longDeleted free freeSlot shown readSlotRefusal readSlotAnswer readKeyRefusal readKeyAnswer rollUpRefusal rollUpAnswer changed putRefusal putAnswer putWords deleteRefusal deleteAnswer deleteWords
 figures = refl

@@ -1,4 +1,4 @@
--- Fields of demand 3's statement at computed histories of a table of one slot: what the wrong builds of RULES.md would break, and
+-- Fields of demand 3's statement at computed histories of tables of one slot and of three: what the wrong builds of RULES.md would break, and
 -- a wrong tally. They follow from `demand3` too; here they are computed from the definitions alone, so that a wrong build in
 -- these makes one of them false (`.ci/wrong-builds`). Assumes nothing.
 use mathlib.Core.Path.{_≡_, refl, sym, ap, _∙_}
@@ -14,7 +14,7 @@ use Rattle.versions.specs.Sessions.{unborn, expired}
 use Rattle.versions_runs.specs.Runs.{beginRefusal, beginAnswer, beginRecord, commitRefusal, commitAnswer, commitRecord}
 use Rattle.table.specs.Slots.{badTable, slotAt, putSlot}
 use Rattle.table_forms.specs.Operations.{column, live}
-use Rattle.table_forms.specs.Totals.{lawful, unlawful}
+use Rattle.table_forms.specs.Totals.{lawful, reported, unlawful}
 use Rattle.table_forms.specs.Formed.{allZeros, totalsLawful, usedWell, wellFormed, anyBroken}
 use Rattle.table_keys.specs.Keys.{hasKey, keySlot}
 use Rattle.table_free.specs.Free.{longDeleted, free, freeSlot}
@@ -33,6 +33,7 @@ use Rattle.calls.specs.Calls as answer
 use Rattle.history.specs.Databases.{found, rolledUp}
 use Rattle.history.specs.Followed.{databaseAt}
 use Rattle.history.specs.Kinds.{World, freshWorld, after, answerOf}
+use Rattle.figures.specs.Cases.{unreported}
 use Rattle.history.specs.Demand.{IsGone, KeyRead, RegionRead, Full}
 use Rattle.history.specs.TwoVersions.{twoVersions}
 
@@ -51,6 +52,15 @@ deletedPut = withRow (delete (pos 1) (pos 14) ∷ put (pos 1) (pos 14) (pos 130)
 -- run 3 deletes it, and another key finds no slot
 abbrev deletedAnother : World twoVersions
 deletedAnother = withRow (delete (pos 1) (pos 14) ∷ put (pos 2) (pos 14) (pos 300) (pos 0) ∷ [])
+
+-- run 2 puts in a row that reports both totals, one that reports total one alone, which is 0, and one that reports none; run 3
+-- corrects the first twice
+abbrev partlyReported : World twoVersions
+partlyReported =
+    after {K = twoVersions}
+    (begin ∷ put (pos 1) (pos 14) (pos 100) (pos 5) ∷ put (pos 1) (pos 15) (pos 0) unreported ∷ put (pos 1) (pos 16) unreported unreported ∷ commit
+    ∷ begin ∷ put (pos 1) (pos 14) (pos 110) (pos 5) ∷ put (pos 1) (pos 14) (pos 120) (pos 5) ∷ [])
+    (freshWorld twoVersions 3)
 
 -- run 2 puts a row in and corrects it
 abbrev putCorrected : World twoVersions
@@ -74,22 +84,22 @@ pub record Held : Type 0 where
   pub deleted-another : KeyRead deletedAnother 2 (pos 1) (pos 14)
   -- 5. once run 3 has begun, version 1 is gone
   pub gone : KeyRead (withRow []) 1 (pos 1) (pos 14)
-  -- a region's roll-up has the sum of each total
-  pub region : RegionRead correctedTwice 2 (pos 1)
+  -- a region's roll-up has its rows, how many of them reported each total, and the sum of each total as they reported it
+  pub region : RegionRead partlyReported 2 (pos 1)
 
 -- the roll-up stands apart, so that a build that breaks a read of a key is refused there too
-summed : RegionRead correctedTwice 2 (pos 1)
-unfolding all any first lowest some badRecord unborn expired beginRefusal beginAnswer beginRecord commitRefusal commitAnswer commitRecord badTable slotAt putSlot column live lawful unlawful allZeros totalsLawful usedWell wellFormed anyBroken hasKey keySlot longDeleted free freeSlot shown readSlotRefusal readSlotAnswer rollUpRefusal rollUpAnswer changed putRefusal putAnswer putWords deleteRefusal deleteAnswer deleteWords readKeyRefusal readKeyAnswer
+summed : RegionRead partlyReported 2 (pos 1)
+unfolding all any first lowest some badRecord unborn expired beginRefusal beginAnswer beginRecord commitRefusal commitAnswer commitRecord badTable slotAt putSlot column live lawful reported unlawful allZeros totalsLawful usedWell wellFormed anyBroken hasKey keySlot longDeleted free freeSlot shown readSlotRefusal readSlotAnswer rollUpRefusal rollUpAnswer changed putRefusal putAnswer putWords deleteRefusal deleteAnswer deleteWords readKeyRefusal readKeyAnswer
 summed = record { gone = λ h. absurd (omega arith); kept = λ still. got ∙ ap answer.rolled (sym sums) }
   where
-    got : answerOf {K = twoVersions} (rollUp (pos 2) (pos 1)) correctedTwice ≡ answer.rolled (rolled.Sums 1 (pos 100) (pos 5))
+    got : answerOf {K = twoVersions} (rollUp (pos 2) (pos 1)) partlyReported ≡ answer.rolled (rolled.Sums 3 2 1 (pos 100) (pos 5))
     got = refl
 
-    sums : rolledUp (pos 1) (databaseAt (correctedTwice .told) 2) ≡ rolled.Sums 1 (pos 100) (pos 5)
+    sums : rolledUp (pos 1) (databaseAt (partlyReported .told) 2) ≡ rolled.Sums 3 2 1 (pos 100) (pos 5)
     sums = refl
 
 pub held : Held
-unfolding all any first lowest some badRecord unborn expired beginRefusal beginAnswer beginRecord commitRefusal commitAnswer commitRecord badTable slotAt putSlot column live lawful unlawful allZeros totalsLawful usedWell wellFormed anyBroken hasKey keySlot longDeleted free freeSlot shown readSlotRefusal readSlotAnswer rollUpRefusal rollUpAnswer changed putRefusal putAnswer putWords deleteRefusal deleteAnswer deleteWords readKeyRefusal readKeyAnswer
+unfolding all any first lowest some badRecord unborn expired beginRefusal beginAnswer beginRecord commitRefusal commitAnswer commitRecord badTable slotAt putSlot column live lawful reported unlawful allZeros totalsLawful usedWell wellFormed anyBroken hasKey keySlot longDeleted free freeSlot shown readSlotRefusal readSlotAnswer rollUpRefusal rollUpAnswer changed putRefusal putAnswer putWords deleteRefusal deleteAnswer deleteWords readKeyRefusal readKeyAnswer
 held = record {
   corrected-twice = read-as correctedTwice 2 (pos 1) (pos 14) (seen.Row (pos 1) (pos 14) (pos 100) (pos 5)) (λ h. omega arith) refl refl;
   put-corrected = read-as putCorrected 1 (pos 1) (pos 14) seen.NoRow (λ h. omega arith) refl refl;

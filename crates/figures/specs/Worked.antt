@@ -16,7 +16,7 @@ use Rattle.versions.specs.Sessions.{unborn, expired}
 use Rattle.versions_runs.specs.Runs.{beginRefusal, beginAnswer, beginRecord, commitRefusal, commitAnswer, commitRecord}
 use Rattle.table.specs.Slots.{badTable, slotAt, putSlot}
 use Rattle.table_forms.specs.Operations.{column, live}
-use Rattle.table_forms.specs.Totals.{lawful, unlawful}
+use Rattle.table_forms.specs.Totals.{lawful, reported, unlawful}
 use Rattle.table_forms.specs.Formed.{allZeros, totalsLawful, usedWell, wellFormed, anyBroken}
 use Rattle.table_keys.specs.Keys.{hasKey, keySlot}
 use Rattle.table_free.specs.Free.{longDeleted, free, freeSlot}
@@ -105,9 +105,9 @@ pub record Worked : Type 0 where
   -- no block is loaded: the load is refused
   pub load-refused : answerOf (loadBlock 1 []) (freshWorld twoVersions 2) ≡ answer.loaded (loaded.Refused 14)
   pub no-load : NoLoad run2 (freshWorld twoVersions 2)
-  -- changes that are refused: a delete of an absent key, a put of totals out of range, and a delete with no run
+  -- changes that are refused: a delete of an absent key, a put of totals that are not lawful, and a delete with no run
   pub absent : answerOf {K = twoVersions} (delete (pos 2) (pos 14)) in2 ≡ answer.placed (placed.Refused 11)
-  pub out-of-range : answerOf {K = twoVersions} (put (pos 1) (pos 14) (pos 0) (pos 1000000000000001)) in3 ≡ answer.placed (placed.Refused 13)
+  pub not-lawful : answerOf {K = twoVersions} (put (pos 1) (pos 14) (pos 0) (pos 1000000000000001)) in3 ≡ answer.placed (placed.Refused 13)
   pub no-run : answerOf {K = twoVersions} (delete (pos 1) (pos 14)) at2 ≡ answer.placed (placed.Refused 8)
   -- versions 1 and 2 are committed; version 2 is not gone in run 3, and gone in run 4
   pub committed-first : Committed (at2 .told) 1
@@ -121,7 +121,7 @@ pub record Worked : Type 0 where
   pub past : answerOf {K = twoVersions} (readSlot (pos 2) 2) at2 ≡ answer.seen (seen.Refused 5)
   -- in run 3 a key read and the region's roll-up at version 2 answer what they did
   pub key : answerOf {K = twoVersions} (readKey (pos 2) (pos 1) (pos 14)) in3 ≡ answer.seen (seen.Row (pos 1) (pos 14) (pos 100) (pos 0))
-  pub region : answerOf {K = twoVersions} (rollUp (pos 2) (pos 1)) in3 ≡ answer.rolled (rolled.Sums 2 (pos 300) (pos 0))
+  pub region : answerOf {K = twoVersions} (rollUp (pos 2) (pos 1)) in3 ≡ answer.rolled (rolled.Sums 2 2 2 (pos 300) (pos 0))
   -- there the two databases together hold both keys: a third is refused as full, and one that is live is accepted
   pub is-full : IsFull 2 in3 (pos 2) (pos 14)
   pub full : answerOf {K = twoVersions} (put (pos 2) (pos 14) (pos 300) (pos 0)) in3 ≡ answer.placed (placed.Refused 12)
@@ -131,7 +131,7 @@ pub record Worked : Type 0 where
   pub reused : answerOf {K = twoVersions} (put (pos 2) (pos 14) (pos 300) (pos 0)) in4 ≡ answer.placed (placed.InSlot 1)
 
 pub worked : Worked
-unfolding all any first lowest some badRecord unborn expired beginRefusal beginAnswer beginRecord commitRefusal commitAnswer commitRecord badTable slotAt putSlot column live lawful unlawful allZeros totalsLawful usedWell wellFormed anyBroken hasKey keySlot longDeleted free freeSlot shown readSlotRefusal readSlotAnswer rollUpRefusal rollUpAnswer changed putRefusal putAnswer putWords deleteRefusal deleteAnswer deleteWords readKeyRefusal readKeyAnswer loadBlockRefusal loadBlockAnswer loadBlockWords
+unfolding all any first lowest some badRecord unborn expired beginRefusal beginAnswer beginRecord commitRefusal commitAnswer commitRecord badTable slotAt putSlot column live lawful reported unlawful allZeros totalsLawful usedWell wellFormed anyBroken hasKey keySlot longDeleted free freeSlot shown readSlotRefusal readSlotAnswer rollUpRefusal rollUpAnswer changed putRefusal putAnswer putWords deleteRefusal deleteAnswer deleteWords readKeyRefusal readKeyAnswer loadBlockRefusal loadBlockAnswer loadBlockWords
 worked = record {
   told = refl;
   database = refl;
@@ -139,7 +139,7 @@ worked = record {
   load-refused = refl;
   no-load = (refl, (refl, (refl, (refl, (refl, tt)))));
   absent = refl;
-  out-of-range = refl;
+  not-lawful = refl;
   no-run = refl;
   committed-first = record { from = omega arith; to = omega arith };
   committed = record { from = omega arith; to = omega arith };

@@ -1,5 +1,5 @@
 -- Databases in another order: a permutation of rows holds the same keys, and where no key stands twice it finds the same rows,
--- rolls up to the same sums, and loses the same row. Each goes by the permutation; a step on one or two rows goes by
+-- rolls up to the same counts and sums, and loses the same row. Each goes by the permutation; a step on one or two rows goes by
 -- the tests on them alone. And the roll-up of a database is what the library's tally of its rows comes to. Assumes nothing.
 use mathlib.Core.Path.{_≡_, refl, sym, ap, ap₂, _∙_}
 use mathlib.Core.Bool.{Bool, true, false, cond, not, _&&_, _||_, or-assoc, or-comm}
@@ -14,11 +14,15 @@ use Rattle.laws.specs.TestLaws.{by-test, clash}
 use Rattle.laws.specs.Permutations.{by-perm, permᴰ-length}
 use Rattle.laws.specs.OrderLaws.{eqZ-true, eqZ-same}
 use Rattle.laws.specs.Order.{eqZ}
+use Rattle.table_forms.specs.TotalLaws.{reported-is}
+use Rattle.table_forms.specs.Totals.{notReported}
 use Rattle.reads.specs.declared.Seen.{Seen}
 use Rattle.reads.specs.declared.Seen.the-variants as seen
 use Rattle.reads_roll_up.specs.declared.Rolled.the-variants.{Sums}
-use Rattle.reads_roll_up.specs.RollUp.{Tally, tally, counted, sums}
-use Rattle.history.specs.Databases.{Row, Database, isKey, holds, NoRepeat, without, found, asSeen, region, sumOf, rolledUp, beside}
+use Rattle.reads_roll_up.specs.declared.Reported.{Reported}
+use Rattle.reads_roll_up.specs.declared.Tally.{Tally}
+use Rattle.reads_roll_up.specs.RollUp.{withTotal, counted, tally, sums}
+use Rattle.history.specs.Databases.{Row, Database, isKey, holds, NoRepeat, without, found, asSeen, those, region, reporting, sumOf, rolledUp, beside}
 
 -- ---- tests
 pub neither : (a b : Bool) → a || b ≡ false → (a ≡ false) × (b ≡ false)
@@ -63,28 +67,27 @@ pub without-absent : (p q : ℤ) (d : Database) → holds p q d ≡ false → wi
 without-absent p q [] h = refl
 without-absent p q (r ∷ d) h =
     let n = neither (isKey p q r) (holds p q d) h in
-    ap₂ (λ b l. cond b l (r ∷ l)) (n .0) (without-absent p q d (n .1))
+    ap₂ (λ b l. cond (not b) (r ∷ l) l) (n .0) (without-absent p q d (n .1))
 
--- ---- what is left where a test on each row drops some, in another order
-module _ (drops : Row → Bool) (left : Database → Database) (none : left [] ≡ []) (row : (r : Row) (d : Database) → left (r ∷ d) ≡ cond (drops r) (left d) (r ∷ left d)) where
-  left-head : (r : Row) (d e : Database) → List·Permᴰ (left d) (left e) → List·Permᴰ (left (r ∷ d)) (left (r ∷ e))
-  left-head r d e x = rw (row r d, row r e) (by-test (drops r) (λ y. rw y x) (λ n. rw n (L.List·Permᴰ·cons refl x)))
+-- ---- the rows that pass a test, in another order
+module _ (test : Row → Bool) where
+  those-head : (r : Row) (d e : Database) → List·Permᴰ (those test d) (those test e) → List·Permᴰ (those test (r ∷ d)) (those test (r ∷ e))
+  those-head r d e x = by-test (test r) (λ y. rw y (L.List·Permᴰ·cons refl x)) (λ n. rw n x)
 
-  left-swap : (a b : Row) (d : Database) → List·Permᴰ (left (a ∷ b ∷ d)) (left (b ∷ a ∷ d))
-  left-swap a b d =
-      rw (row a (b ∷ d), row b d, row b (a ∷ d), row a d)
-      (by-test (drops a)
-      (λ y. rw y (Permᴰ·refl _))
-      (λ n. rw n (by-test (drops b) (λ y. rw y (Permᴰ·refl _)) (λ m. rw m (L.List·Permᴰ·swap refl refl)))))
+  those-swap : (a b : Row) (d : Database) → List·Permᴰ (those test (a ∷ b ∷ d)) (those test (b ∷ a ∷ d))
+  those-swap a b d =
+      by-test (test a)
+      (λ y. rw y (by-test (test b) (λ z. rw z (L.List·Permᴰ·swap refl refl)) (λ m. rw m (Permᴰ·refl _))))
+      (λ n. rw n (Permᴰ·refl _))
 
-  pub left-perm : {d e : Database} → List·Permᴰ d e → List·Permᴰ (left d) (left e)
-  left-perm = by-perm (λ d e. List·Permᴰ (left d) (left e)) (rw none L.List·Permᴰ·nil) left-head left-swap (λ d e f. L.List·Permᴰ·trans)
+  pub those-perm : {d e : Database} → List·Permᴰ d e → List·Permᴰ (those test d) (those test e)
+  those-perm = by-perm (λ d e. List·Permᴰ (those test d) (those test e)) L.List·Permᴰ·nil those-head those-swap (λ d e f. L.List·Permᴰ·trans)
 
 pub without-perm : (p q : ℤ) {d e : Database} → List·Permᴰ d e → List·Permᴰ (without p q d) (without p q e)
-without-perm p q = left-perm (isKey p q) (without p q) refl (λ r d. refl)
+without-perm p q = those-perm (λ r. not (isKey p q r))
 
 pub beside-perm : (a : Database) {d e : Database} → List·Permᴰ d e → List·Permᴰ (beside a d) (beside a e)
-beside-perm a = left-perm (λ r. holds (r .key1) (r .key2) a) (beside a) refl (λ r d. refl)
+beside-perm a = those-perm (λ r. not (holds (r .key1) (r .key2) a))
 
 -- ---- no key twice
 -- the key of a row that is no other's is not the other's either
@@ -133,14 +136,7 @@ found-perm p q (L.List·Permᴰ·swap {a = a} {b = b} {l = l} e f) n =
     rw (← e, ← f) (found-swap (isKey p q a) (isKey p q b) a b (found p q l) (λ x y. clash (same-key p q a b x y) (neither _ _ (n .0) .0)))
 found-perm p q (L.List·Permᴰ·trans x y) n = found-perm p q x n ∙ found-perm p q y (norepeat-perm x n)
 
--- ---- the same sums
-region-perm : (key1 : ℤ) {d e : Database} → List·Permᴰ d e → List·Permᴰ (region key1 d) (region key1 e)
-region-perm key1 = left-perm (λ r. not (eqZ (r .key1) key1)) (region key1) refl (λ r d. other-way (eqZ (r .key1) key1) (r ∷ region key1 d) (region key1 d))
-  where
-    other-way : (b : Bool) (x y : Database) → cond b x y ≡ cond (not b) y x
-    other-way true x y = refl
-    other-way false x y = refl
-
+-- ---- the same counts and sums
 sum-perm : (total : Row → ℤ) {d e : Database} → List·Permᴰ d e → sumOf total d ≡ sumOf total e
 sum-perm total =
     by-perm (λ d e. sumOf total d ≡ sumOf total e) refl (λ r d e. ap (λ z. total r +ℤ z)) (λ a b d. swap (total a) (total b) (sumOf total d)) (λ d e f. _∙_)
@@ -150,28 +146,36 @@ sum-perm total =
 
 -- number by number, since a permutation that is only said to be there may show equal numbers
 pub rolled-perm : (key1 : ℤ) {d e : Database} → Perm d e → rolledUp key1 d ≡ rolledUp key1 e
-rolled-perm key1 {d} {e} p i = Sums (rows i) (sum (λ r. r .total1) i) (sum (λ r. r .total2) i)
+rolled-perm key1 {d} {e} p i = Sums (rows i) (report (λ r. r .total1) i) (report (λ r. r .total2) i) (sum (λ r. r .total1) i) (sum (λ r. r .total2) i)
   where
     rows : length (region key1 d) ≡ length (region key1 e)
-    rows = ∥∥₁-elim p (ℕ-set _ _) (λ q. permᴰ-length (region-perm key1 q))
+    rows = ∥∥₁-elim p (ℕ-set _ _) (λ q. permᴰ-length (those-perm _ q))
 
-    sum : (total : Row → ℤ) → sumOf total (region key1 d) ≡ sumOf total (region key1 e)
-    sum total = ∥∥₁-elim p (ℤ-set _ _) (λ q. sum-perm total (region-perm key1 q))
+    report : (total : Row → ℤ) → length (reporting total (region key1 d)) ≡ length (reporting total (region key1 e))
+    report total = ∥∥₁-elim p (ℕ-set _ _) (λ q. permᴰ-length (those-perm _ (those-perm _ q)))
 
--- ---- the library's tally of a database
+    sum : (total : Row → ℤ) → sumOf total (reporting total (region key1 d)) ≡ sumOf total (reporting total (region key1 e))
+    sum total = ∥∥₁-elim p (ℤ-set _ _) (λ q. sum-perm total (those-perm _ (those-perm _ q)))
+
+-- ---- the library's tally of a database: what its rows report of a total, and what they come to
+abbrev reportOf : (Row → ℤ) → Database → Reported
+reportOf total d = record { rows = length (reporting total d); sum = sumOf total (reporting total d) }
+
 abbrev comeTo : Database → Tally
-comeTo d = record { count = length d; total1 = sumOf (λ r. r .total1) d; total2 = sumOf (λ r. r .total2) d }
+comeTo d = record { rows = length d; total1 = reportOf (λ r. r .total1) d; total2 = reportOf (λ r. r .total2) d }
+
+one-more : (total : Row → ℤ) (r : Row) (d : Database) → withTotal (total r) (reportOf total d) ≡ reportOf total (r ∷ d)
+one-more total r d =
+    rw (reported-is (total r))
+    (by-test (not (eqZ (total r) notReported))
+    (λ y. rw y (λ i. record { rows = suc (length (reporting total d)); sum = +ℤ-comm (sumOf total (reporting total d)) (total r) i })) (λ n. rw n))
 
 tally-counts : (key1 : ℤ) (d : Database) → tally key1 (map asSeen d) ≡ comeTo (region key1 d)
 tally-counts key1 [] = refl
-tally-counts key1 (r ∷ d) = rw (tally-counts key1 d) (by-test (eqZ (r .key1) key1) (λ y. rw y (one-more (region key1 d))) (λ n. rw n))
+tally-counts key1 (r ∷ d) = rw (tally-counts key1 d) (by-test (eqZ (r .key1) key1) (λ y. rw y (counts (region key1 d))) (λ n. rw n))
   where
-    one-more : (e : Database) → counted (r .total1) (r .total2) (comeTo e) ≡ comeTo (r ∷ e)
-    one-more e i = record {
-      count = suc (length e);
-      total1 = +ℤ-comm (sumOf (λ x. x .total1) e) (r .total1) i;
-      total2 = +ℤ-comm (sumOf (λ x. x .total2) e) (r .total2) i;
-    }
+    counts : (e : Database) → counted (r .total1) (r .total2) (comeTo e) ≡ comeTo (r ∷ e)
+    counts e i = record { rows = suc (length e); total1 = one-more (λ x. x .total1) r e i; total2 = one-more (λ x. x .total2) r e i }
 
 pub tally-region : (key1 : ℤ) (d : Database) → sums (tally key1 (map asSeen d)) ≡ rolledUp key1 d
 tally-region key1 d = ap sums (tally-counts key1 d)

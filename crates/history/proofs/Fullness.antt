@@ -26,7 +26,7 @@ use Rattle.history.proofs.Invariant.{Inv}
 -- ---- two databases in another order hold the same keys together
 beside-same : (a a′ b : Database) → ((p q : ℤ) → holds p q a ≡ holds p q a′) → beside a b ≡ beside a′ b
 beside-same a a′ [] same = refl
-beside-same a a′ (r ∷ b) same = ap₂ (λ t l. cond t l (r ∷ l)) (same (r .key1) (r .key2)) (beside-same a a′ b same)
+beside-same a a′ (r ∷ b) same = ap₂ (λ t l. cond (not t) (r ∷ l) l) (same (r .key1) (r .key2)) (beside-same a a′ b same)
 
 together-perm : {a a′ b b′ : Database} → List·Permᴰ a a′ → List·Permᴰ b b′ → List·Permᴰ (together a b) (together a′ b′)
 together-perm {a} {a′} {b} {b′} x y =

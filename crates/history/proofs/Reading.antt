@@ -1,5 +1,5 @@
 -- What is read where the invariant holds, at a committed version that is not gone: the rows shown are a permutation of its
--- database, so a key's row, a slot's row and the sums of a region are the database's. A session that reads each slot once, at
+-- database, so a key's row, a slot's row and the counts and sums of a region are the database's. A session that reads each slot once, at
 -- any places of what follows, gets a permutation of it, since a step keeps what each slot shows there. Assumes nothing.
 use mathlib.Core.Path.{_≡_, refl, sym, ap, _∙_}
 use mathlib.Core.Bool.{true}

@@ -99,7 +99,7 @@ module _ {T : View} (distinct : Distinct T) (f : ℕ → Seen) (owned : (k : ℕ
   pub held-here : (k m : ℕ) (p q : ℤ) → k < m → T .has k p q ≡ true → holds p q (rowsFor f (upTo m)) ≡ shows (f k)
   held-here k m p q l h = held-found p q (rowsFor f (upTo m)) ∙ ap shows (found-here k m p q l h)
 
-  -- the sums of the rows are those of what the slots show
+  -- the counts and sums of the rows are those of what the slots show
   pub tally-rows : (key1 : ℤ) (m : ℕ) → tally key1 (map f (upTo m)) ≡ tally key1 (map asSeen (rowsFor f (upTo m)))
   tally-rows key1 zero = refl
   tally-rows key1 (suc m) =

@@ -105,7 +105,7 @@ module _ {K : Kind} where
     pub delete-absent : w .told .active ≡ true → holds key1 key2 (running (w .told)) ≡ false → answerOf (K .delete key1 key2) w ≡ answer.placed (placed.Refused refusal.keyNotLive)
 
   -- ---- the incident: a region is a first key, its stores the rows that have it. Wherever session s is not refused, the roll-up
-  -- of the region is the count and the sums of its stores as the session read them, slot by slot, at any places of the history
+  -- of the region has the counts and the sums of its stores as the session read them, slot by slot, at any places of the history
   abbrev pub Incident : ℕ → World K → Type 0
   Incident m w = (s : ℕ) → Committed (w .told) s → (turns : List (Turn K)) → ReadsEach m w s turns
       → (h : List (K .Call)) → NoLoad h w → (IsGone (after h w) s → ⊥)

@@ -83,7 +83,7 @@ pub extern "C" fn probe_read_key(
     );
 }
 
-// roll-up: count, sum one, sum two
+// roll-up: rows, rows that reported total one, rows that reported total two, sum one, sum two
 #[no_mangle]
 pub extern "C" fn probe_roll_up(
     table: &[i64],

@@ -56,11 +56,22 @@ pub fn put_rolled(out: &mut [i64; 8], answer: Rolled)
 {
     match answer {
         Rolled::Sums {
-            count,
-            total1,
-            total2,
+            rows,
+            reported1,
+            reported2,
+            sum1,
+            sum2,
         } => {
-            *out = [0, count as i64, total1, total2, 0, 0, 0, 0];
+            *out = [
+                0,
+                rows as i64,
+                reported1 as i64,
+                reported2 as i64,
+                sum1,
+                sum2,
+                0,
+                0,
+            ];
         }
         Rolled::Refused(number) => put_refusal(out, number),
     }

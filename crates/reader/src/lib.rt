@@ -7,7 +7,7 @@ pub use versions::VersionRecord;
 pub use versions_runs::Numbered;
 // What a slot or a key read answers: a row, no row, or a refusal.
 pub use reads::Seen;
-// What a roll-up answers: the count and both sums, or a refusal.
+// What a roll-up answers: how many rows, how many of them reported each total, and both sums; or a refusal.
 pub use reads_roll_up::Rolled;
 // What a change answers: the number of its slot, or a refusal.
 pub use changes_rows::Placed;
@@ -50,9 +50,10 @@ pub use blocks::load_block;
 // The words of a slot, and the most words of a table.
 pub use table::MOST_WORDS;
 pub use table::SLOT_WORDS;
-// The range of a total.
+// The range of a total that is reported, and what stands for one that is not.
 pub use table_forms::HIGHEST_TOTAL;
 pub use table_forms::LOWEST_TOTAL;
+pub use table_forms::NOT_REPORTED;
 // The bytes of a block.
 pub use blocks::BLOCK_BYTES;
 // The refusals by name.

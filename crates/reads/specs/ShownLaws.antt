@@ -23,7 +23,7 @@ cell-cases P x false true c o n = o
 cell-cases P x false false c o n = n
 
 -- an empty column reads nothing
-none-read : (x : Slot) (b : Bool) → readCell (cellAt table1 b 0) x ≡ NoRow
+pub none-read : (x : Slot) (b : Bool) → readCell (cellAt table1 b 0) x ≡ NoRow
 none-read x true = refl
 none-read x false = refl
 

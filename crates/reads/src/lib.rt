@@ -1,5 +1,5 @@
 // What a session reads: Table 1, and the reads of a slot and of a key. Each read begins with the tests of its session, and walks
-// the table at most once. `show` and `session_refusal` are leaves for our other crates.
+// the table at most once. `session_refusal` is a leaf for our other crates.
 ghost use mathlib.Core.Path.{_≡_};
 ghost use mathlib.Core.Bool.{false};
 ghost use mathlib.Core.List.{[], _∷_};
@@ -46,7 +46,7 @@ const TABLE_1: [u8; 8] = [
 ];
 
 // What a session sees of a slot.
-pub fn show(x: Slot, session: i64) -> Seen
+fn show(x: Slot, session: i64) -> Seen
     ensures { λ r. ⌜ r ≡ shown session x ⌝ }
 {
     let run = x.run;

@@ -10,25 +10,28 @@ use Rattle.laws.specs.First.{first, unless}
 use Rattle.laws.specs.Order.{eqZ}
 use Rattle.versions.specs.declared.VersionRecord.{VersionRecord}
 use Rattle.table.specs.Slots.{slots, slotAt}
+use Rattle.table_forms.specs.Totals.{reported}
 use Rattle.table_forms.specs.Formed.{anyBroken}
 use Rattle.reads.specs.declared.Seen.{Seen}
 use Rattle.reads.specs.declared.Seen.the-variants.{Row, NoRow, Refused}
 use Rattle.reads_roll_up.specs.declared.Rolled.{Rolled}
 use Rattle.reads_roll_up.specs.declared.Rolled.the-variants as rolled
-use Rattle.reads_roll_up.specs.declared.Tally as declared
+use Rattle.reads_roll_up.specs.declared.Reported.{Reported}
+use Rattle.reads_roll_up.specs.declared.Tally.{Tally}
 use Rattle.reads.specs.Table1.{shown}
 use Rattle.reads.specs.SessionTests.{sessionTests}
 
--- the count of rows and the sums of both totals
-abbrev pub Tally : Type 0
-Tally = declared.Tally
+-- of a total, how many rows reported it and the sum of what they reported: a total more counts and is added if it is reported
+abbrev pub withTotal : ℤ → Reported → Reported
+withTotal z n = cond (reported z) (record { rows = suc (n .rows); sum = n .sum +ℤ z }) n
 
+-- no row so far: of each total none reported, and the sum 0
 abbrev pub nothing : Tally
-nothing = record { count = 0; total1 = pos 0; total2 = pos 0 }
+nothing = record { rows = 0; total1 = record { rows = 0; sum = pos 0 }; total2 = record { rows = 0; sum = pos 0 } }
 
--- one row more
+-- a row more: it counts, whether it reported or not
 abbrev pub counted : ℤ → ℤ → Tally → Tally
-counted a b n = record { count = suc (n .count); total1 = n .total1 +ℤ a; total2 = n .total2 +ℤ b }
+counted a b n = record { rows = suc (n .rows); total1 = withTotal a (n .total1); total2 = withTotal b (n .total2) }
 
 -- a row with that first key word counts, and nothing else does
 abbrev pub tallied : ℤ → Seen → Tally → Tally
@@ -53,9 +56,9 @@ rollUpTests t v s = sessionTests t v s ++ (anyBroken t v, refusal.brokenSlot) �
 unfoldable pub rollUpRefusal : List ℤ → VersionRecord → ℤ → ℕ
 rollUpRefusal t v s = first (rollUpTests t v s)
 
--- the count of visible rows with that word and the exact sums of both totals
+-- the count of visible rows with that word, how many of them reported each total, and the exact sums of what they reported
 abbrev pub sums : Tally → Rolled
-sums n = rolled.Sums (n .count) (n .total1) (n .total2)
+sums n = rolled.Sums (n .rows) (n .total1 .rows) (n .total2 .rows) (n .total1 .sum) (n .total2 .sum)
 
 unfoldable pub rollUpAnswer : List ℤ → VersionRecord → ℤ → ℤ → Rolled
 rollUpAnswer t v s key1 = unless (rollUpRefusal t v s) rolled.Refused (sums (tally key1 (seen t s (slots t))))

@@ -1,19 +1,22 @@
--- The laws of the roll-up: over well formed slots the count is at most the number of slots and each sum is within 10^15 for
--- each of them, so that both fit; by induction on the slots, a row at a time. Assumes nothing.
+-- The laws of the roll-up: over well formed slots each count is at most the number of slots and each sum is within 10^15 for each
+-- of them, so that both fit, since what says that a total is not reported never enters a sum; by induction on the slots, a row at
+-- a time. Assumes nothing.
 use mathlib.Core.Path.{_≡_, refl}
 use mathlib.Core.Bool.{true, false}
 use mathlib.Core.List.{List}
 use Prim.Native.Nat.{ℕ, zero, suc, _≤_, _<_}
 use native.Mathlib.Omega.{arith}
 use lib.IntN.{ℤ}
+use mir.Syntax.{w64}
+use mir.Val.{SFits}
 use Rattle.laws.specs.TestLaws.{by-test}
 use Rattle.laws.specs.Order.{eqZ}
 use Rattle.laws.specs.Sums.{sum-within, small-fits}
 use Rattle.versions.specs.declared.VersionRecord.{VersionRecord}
 use Rattle.table.specs.declared.Slot.{Slot}
 use Rattle.table.specs.Slots.{mostSlots, slotAt}
-use Rattle.table_forms.specs.TotalLaws.{lawful-within}
-use Rattle.table_forms.specs.Totals.{Given, largestTotal}
+use Rattle.table_forms.specs.TotalLaws.{reported-within}
+use Rattle.table_forms.specs.Totals.{lawful, reported, Given, largestTotal}
 use Rattle.table_forms.specs.Formed.{wellFormed}
 use Rattle.table_forms.specs.FormedLaws.{formed-cases}
 use Rattle.reads.specs.declared.Seen.{Seen}
@@ -21,21 +24,34 @@ use Rattle.reads.specs.declared.Seen.the-variants.{Row, NoRow, Refused}
 use Rattle.reads.specs.Table1.{shown}
 use Rattle.reads.specs.ShownLaws.{shown-cases, shown-own}
 use Rattle.reads.specs.Table1Laws.{shown-empty}
-use Rattle.reads_roll_up.specs.RollUpBounds.{LawfulRow, Bounded, SumsFit}
-use Rattle.reads_roll_up.specs.RollUp.{Tally, counted, tallied, tally, seen}
+use Rattle.reads_roll_up.specs.declared.Reported.{Reported}
+use Rattle.reads_roll_up.specs.declared.Tally.{Tally}
+use Rattle.reads_roll_up.specs.RollUpBounds.{LawfulRow, Within, Bounded}
+use Rattle.reads_roll_up.specs.RollUp.{withTotal, counted, tallied, tally, seen}
+
+pub within-more : {k m : ℕ} {n : Reported} → k ≤ m → Within k n → Within m n
+within-more h w = record { rows = omega arith; sum = omega arith }
 
 pub bounded-more : {k m : ℕ} {n : Tally} → k ≤ m → Bounded k n → Bounded m n
-bounded-more h b = record { count = omega arith; total1 = omega arith; total2 = omega arith }
+bounded-more h b = record { rows = omega arith; total1 = within-more h (b .total1); total2 = within-more h (b .total2) }
 
-pub sums-fit : {n : Tally} → Bounded mostSlots n → SumsFit n
-sums-fit {n} b = record { total1 = small-fits (n .total1) (omega arith); total2 = small-fits (n .total2) (omega arith) }
+-- the sum of at most 1,024 rows fits
+pub sum-fits : {n : Reported} → Within mostSlots n → SFits w64 (n .sum)
+sum-fits {n} w = small-fits (n .sum) (omega arith)
+
+-- a total more: one that is not reported is not added, and any other is within 10^15
+pub with-total-within : {k : ℕ} (z : ℤ) (n : Reported) → lawful z ≡ true → Within k n → Within (suc k) (withTotal z n)
+with-total-within {k} z n l w =
+    by-test (reported z)
+    (λ y. rw y (record { rows = omega arith; sum = omega (arith, sum-within largestTotal k (n .sum) z (w .sum) (reported-within z l y)) }))
+    (λ m. rw m (within-more (omega arith) w))
 
 -- a row more
-pub counted-bounded : {k : ℕ} {a b : ℤ} (n : Tally) → Given a b → Bounded k n → Bounded (suc k) (counted a b n)
+counted-bounded : {k : ℕ} {a b : ℤ} (n : Tally) → Given a b → Bounded k n → Bounded (suc k) (counted a b n)
 counted-bounded {k} {a} {b} n g h = record {
-  count = omega arith;
-  total1 = omega (arith, sum-within largestTotal k (n .total1) a (h .total1) (lawful-within a (g .total1)));
-  total2 = omega (arith, sum-within largestTotal k (n .total2) b (h .total2) (lawful-within b (g .total2)));
+  rows = omega arith;
+  total1 = with-total-within a (n .total1) (g .total1) (h .total1);
+  total2 = with-total-within b (n .total2) (g .total2) (h .total2);
 }
 
 tallied-bounded : {k : ℕ} (key1 : ℤ) (x : Seen) (n : Tally) → LawfulRow x → Bounded k n → Bounded (suc k) (tallied key1 x n)
@@ -62,6 +78,7 @@ shown-lawful s x v w =
 -- the first k slots, all well formed
 pub tally-bounded : (t : List ℤ) (v : VersionRecord) (s key1 : ℤ) (k : ℕ) → ((j : ℕ) → j < k → wellFormed (slotAt t j) v ≡ true)
     → Bounded k (tally key1 (seen t s k))
-tally-bounded t v s key1 zero w = record { count = omega arith; total1 = omega arith; total2 = omega arith }
+tally-bounded t v s key1 zero w =
+    record { rows = omega arith; total1 = record { rows = omega arith; sum = omega arith }; total2 = record { rows = omega arith; sum = omega arith } }
 tally-bounded t v s key1 (suc k) w =
     tallied-bounded key1 (shown s (slotAt t k)) _ (shown-lawful s _ v (w k (omega arith))) (tally-bounded t v s key1 k (λ j h. w j (omega arith)))

@@ -46,7 +46,7 @@ keyNotLive = 11
 abbrev pub tableFull : ℕ
 tableFull = 12
 
--- a given total is out of range
+-- a given total is not lawful
 abbrev pub badTotal : ℕ
 badTotal = 13
 

@@ -33,7 +33,7 @@ pub const KEY_NOT_LIVE: u32 = 11;
 // There is no slot to take.
 pub const TABLE_FULL: u32 = 12;
 
-// A given total is out of range.
+// A given total is not lawful.
 pub const BAD_TOTAL: u32 = 13;
 
 // The block is not 512 bytes.

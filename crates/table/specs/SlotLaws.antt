@@ -4,7 +4,6 @@ use mathlib.Core.Path.{_≡_, refl, sym, ap, _∙_}
 use mathlib.Core.Bool.{false}
 use mathlib.Core.List.{List}
 use Prim.Native.Nat.{ℕ, zero, suc, _+_, _*_, _%_, _≤_, _<_}
-use native.Mathlib.Nat.{add-zero}
 use native.Mathlib.Omega.{arith}
 use lib.Dec.{ltb}
 use lib.IntN.{ℤ, pos}
@@ -15,7 +14,7 @@ use Rattle.laws.specs.TestLaws.{none-at, not-no, by-test}
 use Rattle.laws.specs.Tests.{any}
 use Rattle.laws.specs.Stores.{sets-before, sets-past, sets-within, by-groups}
 use Rattle.table.specs.declared.Slot.{Slot}
-use Rattle.table.specs.Slots.{slotWords, mostSlots, slots, badTable, wordsOf, empty, word, slotAt, putSlot, freshTable, key1Place, key2Place}
+use Rattle.table.specs.Slots.{slotWords, mostSlots, slots, badTable, wordsOf, empty, word, operationPlace, key1Place, key2Place, slotFrom, slotAt, putSlot, freshTable}
 
 -- ---- the lengths of a table that is not refused
 pub record Lengths (t : List ℤ) : Type 0 where
@@ -44,7 +43,7 @@ by-words w = slot-path (w 0 (omega arith)) (w 1 (omega arith)) (w 2 (omega arith
 -- a word of the slot at a place is a word of the table
 pub word-at : (t : List ℤ) (k n : ℕ) → n < slotWords → getD (wordsOf (slotAt t k)) n (pos 0) ≡ word t (k * slotWords + n)
 unfolding slotAt
-word-at t k zero h = ap (word t) (sym (add-zero (k * slotWords)))
+word-at t k zero h = refl
 word-at t k (suc zero) h = refl
 word-at t k (suc (suc zero)) h = refl
 word-at t k (suc (suc (suc zero))) h = refl
@@ -54,18 +53,20 @@ word-at t k (suc (suc (suc (suc (suc (suc zero)))))) h = refl
 word-at t k (suc (suc (suc (suc (suc (suc (suc zero))))))) h = refl
 word-at t k (suc (suc (suc (suc (suc (suc (suc (suc n)))))))) h = absurd (omega arith)
 
--- the words that the searches read
-pub operation-at : (t : List ℤ) (k : ℕ) → slotAt t k .operation ≡ word t (k * slotWords + 1)
+-- the slot at a place by its words, where a pass over the table reads them
+pub slot-from : (t : List ℤ) (k : ℕ) → slotAt t k ≡ slotFrom t (k * slotWords)
 unfolding slotAt
-operation-at t k = refl
+slot-from t k = refl
+
+-- and by the words that the searches read
+pub operation-at : (t : List ℤ) (k : ℕ) → slotAt t k .operation ≡ word t (k * slotWords + operationPlace)
+operation-at t k = ap (λ x. x .operation) (slot-from t k)
 
 pub key1-at : (t : List ℤ) (k : ℕ) → slotAt t k .key1 ≡ word t (k * slotWords + key1Place)
-unfolding slotAt
-key1-at t k = refl
+key1-at t k = ap (λ x. x .key1) (slot-from t k)
 
 pub key2-at : (t : List ℤ) (k : ℕ) → slotAt t k .key2 ≡ word t (k * slotWords + key2Place)
-unfolding slotAt
-key2-at t k = refl
+key2-at t k = ap (λ x. x .key2) (slot-from t k)
 
 -- a word of a slot further on
 pub word-on : (t : List ℤ) (k i n : ℕ) → word t ((k + i) * slotWords + n) ≡ word t (k * slotWords + i * slotWords + n)

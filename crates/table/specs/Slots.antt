@@ -46,25 +46,47 @@ empty = record { run = pos 0; operation = pos 0; key1 = pos 0; key2 = pos 0; cur
 abbrev pub word : List ℤ → ℕ → ℤ
 word t i = getD t i (pos 0)
 
--- the places of the two key words in a slot
+-- the places of the words in a slot
+abbrev pub runPlace : ℕ
+runPlace = 0
+
+abbrev pub operationPlace : ℕ
+operationPlace = 1
+
 abbrev pub key1Place : ℕ
 key1Place = 2
 
 abbrev pub key2Place : ℕ
 key2Place = 3
 
+abbrev pub current1Place : ℕ
+current1Place = 4
+
+abbrev pub current2Place : ℕ
+current2Place = 5
+
+abbrev pub old1Place : ℕ
+old1Place = 6
+
+abbrev pub old2Place : ℕ
+old2Place = 7
+
+-- the slot whose words begin at a word
+abbrev pub slotFrom : List ℤ → ℕ → Slot
+slotFrom t i = record {
+  run = word t (i + runPlace);
+  operation = word t (i + operationPlace);
+  key1 = word t (i + key1Place);
+  key2 = word t (i + key2Place);
+  current1 = word t (i + current1Place);
+  current2 = word t (i + current2Place);
+  old1 = word t (i + old1Place);
+  old2 = word t (i + old2Place);
+}
+
 -- the slot at a place, empty past the end
 unfoldable pub slotAt : List ℤ → ℕ → Slot
-slotAt t k = record {
-  run = word t (k * slotWords);
-  operation = word t (k * slotWords + 1);
-  key1 = word t (k * slotWords + key1Place);
-  key2 = word t (k * slotWords + key2Place);
-  current1 = word t (k * slotWords + 4);
-  current2 = word t (k * slotWords + 5);
-  old1 = word t (k * slotWords + 6);
-  old2 = word t (k * slotWords + 7);
-}
+slotAt t k = slotFrom t (k * slotWords)
 
 -- a table with another slot at a place
 unfoldable pub putSlot : List ℤ → ℕ → Slot → List ℤ

@@ -13,7 +13,7 @@ pub const MOST_SLOTS: usize = 1024;
 pub const MOST_WORDS: usize = MOST_SLOTS * SLOT_WORDS;
 
 // The places of a slot's words.
-const RUN: usize = 0;
+pub const RUN: usize = 0;
 
 pub const OPERATION: usize = 1;
 
@@ -21,13 +21,13 @@ pub const KEY1: usize = 2;
 
 pub const KEY2: usize = 3;
 
-const CURRENT1: usize = 4;
+pub const CURRENT1: usize = 4;
 
-const CURRENT2: usize = 5;
+pub const CURRENT2: usize = 5;
 
-const OLD1: usize = 6;
+pub const OLD1: usize = 6;
 
-const OLD2: usize = 7;
+pub const OLD2: usize = 7;
 
 pub struct Slot {
     pub run: i64,

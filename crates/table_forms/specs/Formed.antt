@@ -26,7 +26,7 @@ allZeros x =
     ∷ eqZ (x .old2) (pos 0)
     ∷ [])
 
--- its four totals are in range
+-- its four totals are lawful
 unfoldable pub totalsLawful : Slot → Bool
 totalsLawful x = all (lawful (x .current1) ∷ lawful (x .current2) ∷ lawful (x .old1) ∷ lawful (x .old2) ∷ [])
 
@@ -35,7 +35,7 @@ abbrev pub oldZero : Slot → Bool
 oldZero x = eqZ (x .old1) (pos 0) && eqZ (x .old2) (pos 0)
 
 -- its operation is 1 to 3, its run number is from 1 to current (to current + 1 while a run is active), its four totals are
--- in range and, for operation 1, its old totals are 0
+-- lawful and, for operation 1, its old totals are 0
 unfoldable pub usedWell : Slot → VersionRecord → Bool
 usedWell x v =
     all (fromTo insertOperation deleteOperation (x .operation)

@@ -1,7 +1,7 @@
 -- The laws of well formed slots: one is empty, or used as `Used` says, and nothing else is well formed. Assumes nothing.
-use mathlib.Core.Path.{_≡_, refl, ap, ap₂}
-use mathlib.Core.Bool.{true, false, not, _&&_, _||_, or-true, or-false}
-use mathlib.Core.List.{List}
+use mathlib.Core.Path.{_≡_, refl, ap, ap₂, _∙_}
+use mathlib.Core.Bool.{true, false, not, _&&_, _||_, or-true, or-false, and-true}
+use mathlib.Core.List.{List, [], _∷_}
 use Prim.Native.Nat.{ℕ, _<_}
 use lib.IntN.{ℤ, pos, negsuc}
 use lib.Signed.{leZ}
@@ -70,22 +70,30 @@ pub formed-cases : (x : Slot) (v : VersionRecord) → wellFormed x v ≡ true �
 unfolding wellFormed
 formed-cases x v w f g = by-test (allZeros x) (λ z. f (zeros-empty x z)) (λ n. g (well-used (rw n at w)))
 
--- ---- a slot with operation 0 is well formed if it is all zeros, and another if it is used well
-empty-unused : (x : Slot) (v : VersionRecord) → x .operation ≡ emptyOperation → usedWell x v ≡ false
-unfolding usedWell
-empty-unused x v e = all-no _ 0 (rw e refl)
+-- ---- a slot whose operation is 1 to 3 is well formed if it is used well, and another if it is all zeros
+pub formed-used : (x : Slot) (v : VersionRecord) → fromTo insertOperation deleteOperation (x .operation) ≡ true → wellFormed x v ≡ usedWell x v
+unfolding wellFormed allZeros
+formed-used x v r = ap (λ b. b || usedWell x v) (all-no _ 1 (by-test (eqZ (x .operation) emptyOperation) (λ y. clash r (ap (fromTo insertOperation deleteOperation) (eqZ-true (x .operation) emptyOperation y))) (λ n. n)))
 
-used-nonzero : (x : Slot) → eqZ (x .operation) emptyOperation ≡ false → allZeros x ≡ false
-unfolding allZeros
-used-nonzero x n = all-no _ 1 n
+pub formed-unused : (x : Slot) (v : VersionRecord) → fromTo insertOperation deleteOperation (x .operation) ≡ false → wellFormed x v ≡ allZeros x
+unfolding wellFormed usedWell
+formed-unused x v n = ap (λ b. allZeros x || b) (all-no _ 0 n) ∙ or-false _
 
-pub formed-empty : (x : Slot) (v : VersionRecord) → x .operation ≡ emptyOperation → wellFormed x v ≡ allZeros x
-unfolding wellFormed
-formed-empty x v e = rw (empty-unused x v e) (or-false _)
+-- ---- and one whose operation is 1 to 3, test by test: its run, its old totals, and where it passes both its totals are left to be asked
+module _ (x : Slot) (v : VersionRecord) where
+  pub used-no-run : fromTo (pos 1) (lastRun v) (x .run) ≡ false → usedWell x v ≡ false
+  unfolding usedWell
+  used-no-run n = all-no _ 1 n
 
-pub formed-used : (x : Slot) (v : VersionRecord) → eqZ (x .operation) emptyOperation ≡ false → wellFormed x v ≡ usedWell x v
-unfolding wellFormed
-formed-used x v n = rw (used-nonzero x n)
+  pub used-with-old : (not (eqZ (x .operation) insertOperation) || oldZero x) ≡ false → usedWell x v ≡ false
+  unfolding usedWell
+  used-with-old n = all-no _ 3 n
+
+  pub used-totals : fromTo insertOperation deleteOperation (x .operation) ≡ true → fromTo (pos 1) (lastRun v) (x .run) ≡ true
+      → (not (eqZ (x .operation) insertOperation) || oldZero x) ≡ true
+      → usedWell x v ≡ all (lawful (x .current1) ∷ lawful (x .current2) ∷ lawful (x .old1) ∷ lawful (x .old2) ∷ [])
+  unfolding usedWell totalsLawful all
+  used-totals o r n = simp (o, r, n) (and-true _)
 
 -- ---- a live slot that is well formed is used
 pub live-used : (x : Slot) (v : VersionRecord) → live x ≡ true → wellFormed x v ≡ true → Used x v

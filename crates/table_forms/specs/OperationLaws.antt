@@ -27,10 +27,6 @@ unfolding live
 live-word x = refl
 
 -- at each operation
-pub column-empty : (x : Slot) → x .operation ≡ emptyOperation → column x ≡ 0
-unfolding column
-column-empty x e = rw e refl
-
 pub column-insert : (x : Slot) → x .operation ≡ insertOperation → column x ≡ 1
 unfolding column
 column-insert x e = rw e refl
@@ -42,6 +38,13 @@ column-update x e = rw e refl
 pub column-delete : (x : Slot) → x .operation ≡ deleteOperation → column x ≡ 3
 unfolding column
 column-delete x e = rw e refl
+
+pub column-other : (x : Slot) → eqZ (x .operation) insertOperation ≡ false → eqZ (x .operation) updateOperation ≡ false → eqZ (x .operation) deleteOperation ≡ false → column x ≡ 0
+unfolding column
+column-other x a b d = rw (a, b, d) refl
+
+pub column-empty : (x : Slot) → x .operation ≡ emptyOperation → column x ≡ 0
+column-empty x e = column-other x (rw e refl) (rw e refl) (rw e refl)
 
 pub live-insert : (x : Slot) → x .operation ≡ insertOperation → live x ≡ true
 unfolding live

@@ -1,13 +1,16 @@
-// What a slot says: its operation, its column in the decision tables and the cell found there; which totals are lawful; and which
-// slots are well formed. All here are leaves for our other crates: what asks for the record requires one that passes test 2.
+// What a slot says: its operation, its column in the decision tables and the cell found there; which totals are lawful and which
+// are reported; and which slots are well formed. All here are leaves for our other crates: what asks for the record requires one that
+// passes test 2.
 ghost use mathlib.Core.Path.{_≡_};
 ghost use mathlib.Core.Bool.{false};
+ghost use mathlib.Core.List.{[], _∷_};
 ghost use Prim.Native.Nat.{_<_};
 ghost use Rattle.laws.specs.Cells.{columns, cellAt};
+ghost use Rattle.laws.specs.Tests.{all};
 ghost use Rattle.versions.specs.Record.{badRecord};
 ghost use Rattle.table_forms.specs.Operations.{column, live, liveWord};
-ghost use Rattle.table_forms.specs.Totals.{lawful, unlawful};
-ghost use Rattle.table_forms.specs.Formed.{allZeros, totalsLawful, usedWell, wellFormed, broken};
+ghost use Rattle.table_forms.specs.Totals.{lawful, reported, unlawful};
+ghost use Rattle.table_forms.specs.Formed.{allZeros, usedWell, wellFormed, broken};
 use table::Slot;
 use versions::VersionRecord;
 
@@ -23,16 +26,25 @@ pub const DELETE: i64 = 3;
 // The columns of a decision table: empty, insert, update, delete.
 const COLUMNS: usize = 4;
 
-// The range of a total.
+// The range of a total that is reported.
 pub const LOWEST_TOTAL: i64 = -1_000_000_000_000_000;
 
 pub const HIGHEST_TOTAL: i64 = 1_000_000_000_000_000;
+
+// The number below the range says that a total is not reported, so that all lawful totals are one range.
+pub const NOT_REPORTED: i64 = LOWEST_TOTAL - 1;
 
 // A total that may be given and stored.
 pub fn is_lawful(total: i64) -> bool
     ensures { λ r. ⌜ r ≡ lawful total ⌝ }
 {
-    (LOWEST_TOTAL <= total) & (total <= HIGHEST_TOTAL)
+    (NOT_REPORTED <= total) & (total <= HIGHEST_TOTAL)
+}
+
+pub fn is_reported(total: i64) -> bool
+    ensures { λ r. ⌜ r ≡ reported total ⌝ }
+{
+    total != NOT_REPORTED
 }
 
 // Refusal 13.
@@ -94,10 +106,11 @@ pub fn all_zeros(x: Slot) -> bool
         & (x.old2 == 0)
 }
 
-fn totals_lawful(x: Slot) -> bool
-    ensures { λ r. ⌜ r ≡ totalsLawful x ⌝ }
+// The four totals of a slot.
+pub fn are_lawful(current1: i64, current2: i64, old1: i64, old2: i64) -> bool
+    ensures { λ r. ⌜ r ≡ all (lawful current1 ∷ lawful current2 ∷ lawful old1 ∷ lawful old2 ∷ []) ⌝ }
 {
-    is_lawful(x.current1) & is_lawful(x.current2) & is_lawful(x.old1) & is_lawful(x.old2)
+    is_lawful(current1) & is_lawful(current2) & is_lawful(old1) & is_lawful(old2)
 }
 
 fn used_well(x: Slot, versions: VersionRecord) -> bool
@@ -106,12 +119,14 @@ fn used_well(x: Slot, versions: VersionRecord) -> bool
 {
     let run = x.run;
     let operation = x.operation;
+    let current1 = x.current1;
+    let current2 = x.current2;
     let old1 = x.old1;
     let old2 = x.old2;
     let last = versions::last_run(versions);
     ((INSERT <= operation) & (operation <= DELETE))
         & ((1 <= run) & (run <= last))
-        & totals_lawful(x)
+        & are_lawful(current1, current2, old1, old2)
         & ((operation != INSERT) | ((old1 == 0) & (old2 == 0)))
 }
 
@@ -120,10 +135,10 @@ pub fn well_formed(x: Slot, versions: VersionRecord) -> bool
     ensures { λ r. ⌜ r ≡ wellFormed x versions ⌝ }
 {
     let operation = x.operation;
-    if operation == EMPTY {
-        return all_zeros(x);
+    if (INSERT <= operation) & (operation <= DELETE) {
+        return used_well(x, versions);
     }
-    used_well(x, versions)
+    all_zeros(x)
 }
 
 // Refusal 6.

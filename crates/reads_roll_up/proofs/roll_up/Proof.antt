@@ -66,9 +66,9 @@ count : (l : tie.At-loop Inv-loop μ-loop) → l .before .slots-of .result ≡ s
 count l = l .before .slots-of .ensures
 
 -- the slot at k was tested
-tested : (c : tie.After-is-broken Inv-loop μ-loop) → let l = c .before .before .before in let a = s4 (opens l) .args in
-    c .is-broken .result ≡ broken (slotAt (a .table .now) (l .loop .k)) (a .versions)
-tested c = rw (c .before .slot-at .ensures) at (c .is-broken .ensures)
+tested : (c : tie.After-is-broken-at Inv-loop μ-loop) → let l = c .before .before in let a = s4 (opens l) .args in
+    c .is-broken-at .result ≡ broken (slotAt (a .table .now) (l .loop .k)) (a .versions)
+tested c = c .is-broken-at .ensures
 
 is1-to-4 : tie.Need-returns Inv-loop μ-loop
 unfolding rollUpRefusal rollUpAnswer
@@ -78,27 +78,32 @@ is6 : tie.Need-returns-2 Inv-loop μ-loop
 unfolding rollUpAnswer
 is6 c =
     let w = c .before in
-    let l = w .before .before .before in
+    let l = w .before .before in
     let h = sym (tested w) ∙ c .if2 .taken in
     record { answer = unless-refused Refused _ (past4 (opens l) ∙ hit _ (by-test _ (λ y. y) (λ n. clash (none-broken _ _ n _ (omega (arith, count l))) (not-yes h)))) (omega arith) }
 
--- the tally so far is of fewer than 1,024 rows
+-- the place is in the table
+inside : (c : tie.After-is-broken-at Inv-loop μ-loop) → let l = c .before .before in l .loop .k < slots (s4 (opens l) .args .table .now)
+inside c = omega (arith, count (c .before .before))
+
+-- the slot at k is well formed, and the tally so far is of fewer than 1,024 rows
 small : tie.Need-tally-slot-requires Inv-loop μ-loop
 small c κs =
-    let x = c .before .before in
-    let l = x .before .before in
+    let w = c .before in
+    let l = w .before .before in
     let few = lengths _ (can (opens l) .table) .few in
-    let bounds = tally-bounded _ _ _ _ (l .loop .k) (λ j h. not-no (l .loop .inv .2 j h)) in
-    (rw (x .slot-at .ensures) (shown-lawful _ _ _ (not-no (sym (tested (c .before)) ∙ c .if2 .left))), rw (l .loop .inv .1) (bounded-more (omega (arith, count l)) bounds))
+    let bounds = tally-bounded _ _ _ _ (l .loop .k) (λ j h. not-no (l .loop .inv .2 j h)) in (
+      can (opens l) .table,
+      (inside w, (shown-lawful _ _ _ (not-no (sym (tested w) ∙ c .if2 .left)), rw (l .loop .inv .1) (bounded-more (omega (arith, count l)) bounds))),
+    )
 
 again : tie.Need-loop-again Inv-loop μ-loop
 again c =
     let e = c .before in
-    let x = e .before .before in
-    let l = x .before .before in
+    let l = e .before .before .before in
     let a = s4 (opens l) .args in (
       omega arith,
-      rw (add-one (l .loop .k)) (rw (x .slot-at .ensures, l .loop .inv .1) at (c .tally-slot .ensures)),
+      rw (add-one (l .loop .k)) (rw (l .loop .inv .1) at (c .tally-slot .ensures)),
       below-next {p = λ j. broken (slotAt (a .table .now) j) (a .versions)} (l .loop .inv .2) (sym (tested (e .before)) ∙ e .if2 .left),
     )
 
@@ -125,8 +130,8 @@ rolls : tie.Need-returns-3 Inv-loop μ-loop
 unfolding rollUpAnswer
 rolls c =
     let n = c .before .before .loop .tally in
-    let first-fits : SFits w64 (n .total1) = search needs in
-    let second-fits : SFits w64 (n .total2) = search needs in
+    let first-fits : SFits w64 (n .total1 .sum) = search needs in
+    let second-fits : SFits w64 (n .total2 .sum) = search needs in
     record { answer = unless-done Refused (past6 (c .before) ∙ done) (rw (plain _ first-fits, plain _ second-fits) (ap sums (whole (c .before)))) }
 
 pub roll-up-spec : {M : Type 1} → statement M
@@ -136,8 +141,7 @@ roll-up-spec =
     (λ c κs. search needs) is1-to-4
     (λ c κs. search needs)
     (λ c. (omega arith, refl, λ j h. absurd (omega arith)))
-    (λ c κs. can (opens (c .before)) .table)
-    (λ c κs. can (opens (c .before .before)) .session .known) is6
+    (λ c κs. (can (opens (c .before)) .table, (omega (arith, count (c .before)), can (opens (c .before)) .session .known))) is6
     small (λ c. omega arith) (λ c. omega arith)
     again
     rolls)

@@ -1,4 +1,4 @@
--- `probe::numbers::put_rolled`: an arm is `ofRolled` at its constructor; the count of rows is below 2^32, so the same with a
+-- `probe::numbers::put_rolled`: an arm is `ofRolled` at its constructor; the counts of rows are below 2^32, so the same with a
 -- sign (`toZ-pos`). Assumes nothing.
 use native.Mathlib.Omega.{arith}
 use mir.Syntax.{w64}
@@ -11,11 +11,16 @@ sums : tie.Need-returns
 sums c =
     let known = c .before in
     let arm = known .before .answer .given in
-    let count = known .known-told .given .0 .1 in
-    rw (toZ-pos w64 (arm .0 .0) (omega arith)) (search (needs, arm .1))
+    let told = known .known-told .given in
+    rw (
+      toZ-pos w64 (arm .0 .0) (omega (arith, told .0 .1)),
+      toZ-pos w64 (arm .0 .1 .0) (omega (arith, told .1 .0 .1)),
+      toZ-pos w64 (arm .0 .1 .1 .0) (omega (arith, told .1 .1 .0 .1)),
+    )
+    (search (needs, arm .1))
 
 refused : tie.Need-returns-2
 refused c = let arm = c .before .before .before in search (arm .answer2 .given .1, c .put-refusal .ensures)
 
 pub put-rolled-spec : {M : Type 1} → statement M
-put-rolled-spec = tie.close (tie.spec (λ c. search needs) (λ c. search needs) (λ c. search needs) (λ c κs. search needs) sums refused)
+put-rolled-spec = tie.close (tie.spec (λ c. search needs) (λ c. search needs) (λ c. search needs) (λ c. search needs) (λ c. search needs) (λ c κs. search needs) sums refused)
