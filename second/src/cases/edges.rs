@@ -2,14 +2,14 @@
 
 use crate::cases::random::Random;
 use crate::model::record::LARGEST_VERSION;
-use crate::model::slot::{Key, LARGEST_TOTAL, Totals};
+use crate::model::slot::{Key, LARGEST_TOTAL, NOT_REPORTED, Totals};
 
 const HALF_RANGE: i64 = 1 << 32;
 
 /// The word that the caller fills the room around each thing lent with.
 const GUARD_WORD: i64 = 0xa5a5_a5a5_a5a5_a5a5_u64 as i64;
 
-const WORDS: [i64; 18] = [
+const WORDS: [i64; 19] = [
     0,
     1,
     -1,
@@ -25,11 +25,16 @@ const WORDS: [i64; 18] = [
     -HALF_RANGE,
     LARGEST_VERSION,
     LARGEST_VERSION + 1,
+    NOT_REPORTED,
     GUARD_WORD,
     i64::MIN,
     i64::MAX,
 ];
 
+/// How many lawful totals of a hundred are not reported.
+const NOT_REPORTED_PERCENT: usize = 20;
+
+/// Lawful totals that are reported.
 const LAWFUL_TOTALS: [i64; 9] = [
     0,
     1,
@@ -44,14 +49,14 @@ const LAWFUL_TOTALS: [i64; 9] = [
 
 const UNLAWFUL_TOTALS: [i64; 6] = [
     LARGEST_TOTAL + 1,
-    -LARGEST_TOTAL - 1,
+    NOT_REPORTED - 1,
     i64::MAX,
     i64::MIN,
     i64::MAX - 1,
     i64::MIN + 1,
 ];
 
-const KEY_WORDS: [i64; 10] = [
+const KEY_WORDS: [i64; 11] = [
     0,
     1,
     2,
@@ -59,6 +64,7 @@ const KEY_WORDS: [i64; 10] = [
     HALF_RANGE,
     HALF_RANGE + 1,
     19_961_014,
+    NOT_REPORTED,
     i64::MIN,
     i64::MAX,
     GUARD_WORD,
@@ -80,8 +86,11 @@ pub fn word_near(random: &mut Random, centre: i64) -> i64 {
     }
 }
 
-/// A lawful total.
+/// A lawful total, reported or not.
 pub fn total(random: &mut Random) -> i64 {
+    if random.percent(NOT_REPORTED_PERCENT) {
+        return NOT_REPORTED;
+    }
     match random.below(3) {
         0 => random.pick(&LAWFUL_TOTALS),
         1 => random.between(-LARGEST_TOTAL, LARGEST_TOTAL),
@@ -93,7 +102,7 @@ pub fn totals(random: &mut Random) -> Totals {
     [total(random), total(random)]
 }
 
-/// Two totals, one of them out of range.
+/// Two totals, one of them not lawful.
 pub fn unlawful_totals(random: &mut Random) -> Totals {
     let mut totals = totals(random);
     totals[random.below(2)] = random.pick(&UNLAWFUL_TOTALS);

@@ -1,12 +1,13 @@
-//! Document 01's figures and what request 1 says of put, cell by cell, by which the
-//! model itself is held to the documents.
+//! Document 01's figures, what request 1 says of put, cell by cell, and what request
+//! 3 says of totals not reported, by which the model itself is held to the documents.
 
 use crate::cases::case::Case;
-use crate::model::block::{BLOCK_BYTES, Block, HALF_BYTES};
-use crate::model::call::{Call, Lent, OUT_WORDS, out_words};
-use crate::model::outcome::make_call;
+use crate::cases::figure::{self, Figure, Gives, begin, commit, delete, held_to, read};
+use crate::cases::not_reported;
+use crate::model::block::Block;
+use crate::model::call::{Call, Lent};
 use crate::model::record::VersionRecord;
-use crate::model::slot::{Key, LARGEST_TOTAL, SLOT_WORDS};
+use crate::model::slot::{LARGEST_TOTAL, NOT_REPORTED, SLOT_WORDS};
 use crate::model::steps;
 use crate::model::table::Table;
 
@@ -52,9 +53,10 @@ const EVERY_CELL_PUT: [[i64; SLOT_WORDS]; 6] = [
 const BROKEN_SLOT: [i64; SLOT_WORDS] = [3, 1, 1, 1, 10, 0, 9, 0];
 
 /// What the program steps reads, and what it prints for it.
-pub const SESSIONS: [(&str, &str); 2] = [
+pub const SESSIONS: [(&str, &str); 3] = [
     (STEPS_INPUT, STEPS_OUTPUT),
     (BAD_LETTERS_INPUT, BAD_LETTERS_OUTPUT),
+    not_reported::SESSION,
 ];
 
 const STEPS_INPUT: &str = "\
@@ -109,20 +111,6 @@ version 2
 row 10000 0
 ";
 
-/// What a call of a figure is to give: the first numbers, zeros after them, or
-/// the check of the block that it saves.
-enum Gives {
-    Numbers(Vec<i64>),
-    Check(u32),
-}
-
-/// A case whose outcome the documents say.
-struct Figure {
-    start: Lent,
-    calls: Vec<(Call, Gives)>,
-    end: Option<Vec<i64>>,
-}
-
 /// The cases of the figures, or what the model gives otherwise than the documents.
 pub fn cases() -> Result<Vec<Case>, String> {
     for (input, output) in SESSIONS {
@@ -130,7 +118,7 @@ pub fn cases() -> Result<Vec<Case>, String> {
             return Err(format!("a session of the program steps:\n{input}"));
         }
     }
-    let figures = [
+    let figures = vec![
         reads_of_figure_4(),
         changes_of_figure_5(),
         net_effects(),
@@ -140,65 +128,15 @@ pub fn cases() -> Result<Vec<Case>, String> {
         tests_of_put(),
         checks(0, 19_971_019),
         checks(-1, 19_971_017),
+        checks(NOT_REPORTED, not_reported::CHECK),
     ];
-    figures.into_iter().map(held_to).collect()
+    let all = figures.into_iter().chain(not_reported::figures());
+    all.map(held_to).collect()
 }
 
-fn held_to(figure: Figure) -> Result<Case, String> {
-    let mut lent = figure.start.clone();
-    for (call, gives) in &figure.calls {
-        let outcome = make_call(call, &mut lent);
-        let right = match gives {
-            Gives::Numbers(numbers) => {
-                let mut out = numbers.clone();
-                out.resize(OUT_WORDS, 0);
-                out_words(&outcome).as_slice() == out
-            }
-            Gives::Check(check) => {
-                call.left_block(&outcome)[BLOCK_BYTES - HALF_BYTES..] == check.to_le_bytes()
-            }
-        };
-        if !right {
-            return Err(format!("{call}: {outcome:?}"));
-        }
-    }
-    if figure.end.is_some_and(|end| end != lent.table.words) {
-        return Err(format!("the table at the end: {:?}", lent.table.words));
-    }
-    Ok(Case {
-        start: figure.start,
-        calls: figure.calls.into_iter().map(|(call, _)| call).collect(),
-    })
-}
-
-fn key(one: i64, two: i64) -> Key {
-    Key { one, two }
-}
-
+/// A put whose total two is 0.
 fn put(one: i64, two: i64, total: i64, gives: &[i64]) -> (Call, Gives) {
-    let call = Call::Put {
-        key: key(one, two),
-        totals: [total, 0],
-    };
-    (call, Gives::Numbers(gives.to_vec()))
-}
-
-fn delete(one: i64, two: i64, gives: &[i64]) -> (Call, Gives) {
-    let key = key(one, two);
-    (Call::Delete { key }, Gives::Numbers(gives.to_vec()))
-}
-
-fn begin(run: i64) -> (Call, Gives) {
-    (Call::Begin, Gives::Numbers(vec![0, run]))
-}
-
-fn commit(version: i64) -> (Call, Gives) {
-    (Call::Commit, Gives::Numbers(vec![0, version]))
-}
-
-fn read(session: i64, slot: u64, gives: &[i64]) -> (Call, Gives) {
-    let call = Call::ReadSlot { session, slot };
-    (call, Gives::Numbers(gives.to_vec()))
+    figure::put(one, two, [total, 0], gives)
 }
 
 fn figure_4() -> Lent {
@@ -344,10 +282,6 @@ fn tests_of_put() -> Figure {
 
 /// The checks of the blocks of eight slots, one of them with this total two.
 fn checks(total_two: i64, check: u32) -> Figure {
-    let put = Call::Put {
-        key: key(1, 19_961_014),
-        totals: [10_000, total_two],
-    };
     let save = Call::SaveBlock { number: 1 };
     Figure {
         start: Lent::fresh(8),
@@ -357,7 +291,7 @@ fn checks(total_two: i64, check: u32) -> Figure {
             begin(2),
             (Call::SaveHeader, Gives::Numbers(vec![7])),
             (save.clone(), Gives::Numbers(vec![7])),
-            (put, Gives::Numbers(vec![0, 0])),
+            figure::put(1, 19_961_014, [10_000, total_two], &[0, 0]),
             commit(2),
             (save, Gives::Check(check)),
             (

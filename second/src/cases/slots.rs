@@ -4,9 +4,18 @@
 use crate::cases::edges;
 use crate::cases::random::Random;
 use crate::model::record::{LARGEST_VERSION, Version};
-use crate::model::slot::{DELETE, INSERT, Key, NULLS, SLOT_WORDS, Slot, UPDATE};
+use crate::model::slot::{
+    DELETE, INSERT, Key, NOT_REPORTED, NULLS, SLOT_WORDS, Slot, Totals, UPDATE,
+};
 
 const EMPTY_PERCENT: usize = 25;
+
+/// Old totals that are allowed, but not in an insert.
+const NOT_OF_AN_INSERT: [Totals; 3] = [
+    [NOT_REPORTED, 0],
+    [0, NOT_REPORTED],
+    [NOT_REPORTED, NOT_REPORTED],
+];
 
 /// A slot that is well formed, if any is at the version.
 pub fn well_formed(random: &mut Random, version: Version, keys: &[Key]) -> Slot {
@@ -44,12 +53,13 @@ pub fn hostile(random: &mut Random, version: Version, keys: &[Key]) -> Slot {
         1 => any_slot(random),
         _ => well_formed(random, version, keys),
     };
-    match random.below(6) {
+    match random.below(7) {
         0 => slot.run = edges::word_near(random, version.current),
         1 => slot.operation = edges::word_near(random, UPDATE),
         2 => slot.current = edges::unlawful_totals(random),
         3 => slot.old = edges::unlawful_totals(random),
         4 => slot.old = edges::totals(random),
+        5 => slot.old = random.pick(&NOT_OF_AN_INSERT),
         _ => slot.key.one = edges::word(random),
     }
     slot

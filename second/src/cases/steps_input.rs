@@ -10,7 +10,7 @@ const NO_LAST_NEWLINE_PERCENT: usize = 50;
 const BEGIN_PERCENT: usize = 30;
 
 /// Numbers at the edges of what a line may have; some make a bad line.
-const NUMBERS: [&str; 24] = [
+const NUMBERS: [&str; 25] = [
     "0",
     "-0",
     "00",
@@ -26,6 +26,7 @@ const NUMBERS: [&str; 24] = [
     "1000000000000001",
     "-1000000000000000",
     "-1000000000000001",
+    "-1000000000000002",
     "9223372036854775806",
     "9223372036854775807",
     "9223372036854775808",

@@ -3,7 +3,7 @@
 
 use crate::cases::case::Case;
 use crate::cases::random::Random;
-use crate::cases::{hostile, lawful};
+use crate::cases::{ends, hostile, lawful};
 use crate::comparison::batch::{Batch, Difference};
 use crate::comparison::caller::Caller;
 use crate::comparison::coverage::Coverage;
@@ -15,10 +15,11 @@ const BATCH_BYTES: usize = 8_000_000;
 type Draw = fn(&mut Random) -> Case;
 
 /// The ways to draw a case, each as often as its weight says.
-const DRAWS: [(usize, Draw); 3] = [
-    (1, lawful::reloaded_case),
-    (3, lawful::case),
-    (16, hostile::case),
+const DRAWS: [(usize, Draw); 4] = [
+    (1, ends::case),
+    (50, lawful::reloaded_case),
+    (150, lawful::case),
+    (800, hostile::case),
 ];
 
 /// What was compared and agreed.
@@ -47,6 +48,7 @@ impl Found {
             histories,
             reads,
             expired,
+            left_out,
             scans,
             puts,
             full,
@@ -54,8 +56,9 @@ impl Found {
         } = self.tally;
         println!(
             "demand 3 followed over {histories} histories: {reads} reads, {expired} of them \
-             expired; {scans} sessions that read every slot; {puts} puts of lawful totals, \
-             {full} of them refused as full and {held} of a key held where there was no room"
+             expired; {left_out} roll-ups that leave out a total not reported; {scans} sessions \
+             that read every slot; {puts} puts of lawful totals, {full} of them refused as full \
+             and {held} of a key held where there was no room"
         );
         println!(
             "{} calls: numbers, table, record and block agree",

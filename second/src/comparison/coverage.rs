@@ -1,7 +1,8 @@
 //! What the calls reached: every refusal of every call, every cell of the source's
-//! Tables 1 to 4 that a call can come to, and the rare cases of a put.
+//! Tables 1 to 4 that a call can come to, and the rare cases.
 
-use crate::comparison::rare::{MetByPut, RARE};
+use crate::comparison::counts::{add_all, shown};
+use crate::comparison::rare::Rare;
 use crate::model::call::{Answer, Call, KINDS, Kind, Lent, Outcome};
 use crate::model::refusal::{REFUSALS, Refusal};
 use crate::model::slot::{DELETE, EMPTY, INSERT, Key, Slot, UPDATE};
@@ -38,8 +39,7 @@ pub struct Coverage {
     cells: [Cells; TABLES.len()],
     /// Table 2, no conflicting tuple: an empty slot taken, a deleted one taken
     taken: [u64; 2],
-    /// the rare cases of a put
-    rare: [u64; RARE.len()],
+    rare: Rare,
 }
 
 /// The tables by the call that comes to them, and the operations of a slot by which
@@ -81,11 +81,7 @@ impl Coverage {
             }
             _ => {}
         }
-        if let Call::Put { key, totals } = call
-            && let Some(met) = MetByPut::of(*key, *totals, before, outcome)
-        {
-            self.count_rare(&met);
-        }
+        self.rare.count(call, before, outcome);
     }
 
     fn count_change(&mut self, kind: Kind, key: Key, before: &Lent, outcome: &Outcome) {
@@ -109,12 +105,6 @@ impl Coverage {
         }
     }
 
-    fn count_rare(&mut self, met: &MetByPut) {
-        for (count, (_, is_met)) in self.rare.iter_mut().zip(RARE) {
-            *count += u64::from(is_met(met));
-        }
-    }
-
     pub fn add(&mut self, other: &Coverage) {
         add_all(
             self.outcomes.as_flattened_mut(),
@@ -123,7 +113,7 @@ impl Coverage {
         let cells = self.cells.as_flattened_mut().as_flattened_mut();
         add_all(cells, other.cells.as_flattened().as_flattened());
         add_all(&mut self.taken, &other.taken);
-        add_all(&mut self.rare, &other.rare);
+        self.rare.add(&other.rare);
     }
 
     /// What can be reached and was not.
@@ -145,11 +135,7 @@ impl Coverage {
         if self.taken.contains(&0) {
             missing.push("a way to take a slot in Table 2".to_string());
         }
-        for (&count, (name, _)) in self.rare.iter().zip(RARE) {
-            if count == 0 {
-                missing.push(format!("put: {name}"));
-            }
-        }
+        missing.extend(self.rare.missing());
         missing
     }
 
@@ -157,7 +143,7 @@ impl Coverage {
     pub fn print(&self) {
         self.print_outcomes();
         self.print_cells();
-        self.print_rare();
+        self.rare.print();
     }
 
     /// A column is an outcome: 0 or the refusal's number.
@@ -184,13 +170,6 @@ impl Coverage {
         let [empty, deleted] = self.taken;
         println!("No conflicting tuple: {empty} empty and {deleted} deleted slots taken");
     }
-
-    fn print_rare(&self) {
-        println!("rare cases of a put; a table is full that has no slot to take");
-        for (&count, (name, _)) in self.rare.iter().zip(RARE) {
-            println!("{}  {name}", shown(count));
-        }
-    }
 }
 
 /// The column of an operation in a decision table.
@@ -201,18 +180,4 @@ fn column(operation: i64) -> usize {
 fn slot_of(before: &Lent, key: Key) -> Option<Slot> {
     let place = before.table.keys_slot(key)?;
     Some(before.table.slot(place))
-}
-
-fn add_all(counts: &mut [u64], others: &[u64]) {
-    for (count, other) in counts.iter_mut().zip(others) {
-        *count += other;
-    }
-}
-
-fn shown(count: u64) -> String {
-    if count == 0 {
-        format!("{:>8}", "-")
-    } else {
-        format!("{count:>8}")
-    }
 }

@@ -3,7 +3,7 @@
 
 use crate::model::call::{Call, OUT_WORDS, Out};
 use crate::model::refusal::Refusal;
-use crate::model::slot::{Key, Row, Totals, is_lawful};
+use crate::model::slot::{Key, Row, Totals, is_lawful, is_reported};
 use std::collections::BTreeMap;
 use std::ops::AddAssign;
 
@@ -17,6 +17,8 @@ pub struct Tally {
     pub histories: usize,
     pub reads: usize,
     pub expired: usize,
+    /// roll-ups that leave out a total that is not reported
+    pub left_out: usize,
     /// sessions whose every slot was read
     pub scans: usize,
     /// puts of lawful totals in a run
@@ -133,12 +135,11 @@ impl Followed {
         let Some(database) = self.readable(session, out)? else {
             return Ok(());
         };
-        let mut words = [0; OUT_WORDS];
-        for (_, totals) in database.iter().filter(|(key, _)| key.one == one) {
-            words[1] += 1;
-            words[2] += totals[0];
-            words[3] += totals[1];
-        }
+        let rows = database.iter().filter(|(key, _)| key.one == one);
+        let rows: Vec<Totals> = rows.map(|(_, &totals)| totals).collect();
+        let leaves_out = rows.iter().flatten().any(|&total| !is_reported(total));
+        self.tally.left_out += usize::from(leaves_out);
+        let words = roll_up_words(&rows);
         expect(*out == words, || {
             format!("database {session} rolls up to {words:?}")
         })
@@ -176,7 +177,7 @@ impl Followed {
             return expect(out[0] != ACCEPTED, || "a put with no run".to_string());
         };
         if !is_lawful(totals) {
-            return expect(out[0] != ACCEPTED, || "totals out of range".to_string());
+            return expect(out[0] != ACCEPTED, || "totals that are not lawful".to_string());
         }
         let keys = count_keys(running, current);
         let no_room = keys == self.slots;
@@ -205,6 +206,7 @@ impl AddAssign for Tally {
         self.histories += other.histories;
         self.reads += other.reads;
         self.expired += other.expired;
+        self.left_out += other.left_out;
         self.scans += other.scans;
         self.puts += other.puts;
         self.full += other.full;
@@ -220,6 +222,31 @@ fn count_keys(one: &Database, other: &Database) -> usize {
 
 fn expect(right: bool, because: impl FnOnce() -> String) -> Result<(), String> {
     if right { Ok(()) } else { Err(because()) }
+}
+
+/// What a roll-up of the rows leaves: how many there are, how many of them reported
+/// total one and how many total two, and the sums of what they reported.
+fn roll_up_words(rows: &[Totals]) -> Out {
+    let [first, second] = [0, 1].map(|index| reported(rows, index));
+    let counts = [rows.len(), first.len(), second.len()];
+    let [rows, reported_first, reported_second] = counts.map(|count| count as i64);
+    let [sum_first, sum_second] = [first, second].map(|totals| totals.iter().sum());
+    [
+        ACCEPTED,
+        rows,
+        reported_first,
+        reported_second,
+        sum_first,
+        sum_second,
+        0,
+        0,
+    ]
+}
+
+/// The total with this index, of the rows that reported it.
+fn reported(rows: &[Totals], index: usize) -> Vec<i64> {
+    let totals = rows.iter().map(|totals| totals[index]);
+    totals.filter(|&total| is_reported(total)).collect()
 }
 
 fn row_words(row: Option<Row>) -> Out {

@@ -4,6 +4,7 @@
 pub mod batch;
 pub mod caller;
 pub mod calls;
+pub mod counts;
 pub mod coverage;
 pub mod databases;
 pub mod rare;

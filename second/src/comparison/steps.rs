@@ -4,6 +4,8 @@ use crate::cases::figures;
 use crate::cases::random::Random;
 use crate::cases::steps_input;
 use crate::comparison::shrink;
+use crate::model::call::Call;
+use crate::model::slot::NOT_REPORTED;
 use crate::model::steps;
 use std::io::{self, Write};
 use std::process::{Command, Stdio};
@@ -12,12 +14,35 @@ use std::thread;
 /// Input lines are shown no longer than this.
 const MOST_SHOWN: usize = 200;
 
-/// Lines that must be met: a letter before the fields of a put, and what is printed.
-const MUST_MEET: [(&str, &str); 4] = [
-    ("P", "slot"),
-    ("P", "refused 12"),
-    ("I", steps::BAD_LINE),
-    ("U", steps::BAD_LINE),
+/// Whether a line, with what is printed for it, is one that must be met.
+type IsMet = fn(&[u8], &str) -> bool;
+
+/// Lines that must be met, by what they are called.
+const MUST_MEET: [(&str, IsMet); 8] = [
+    ("P slot", |line, printed| {
+        is_put_but_for("P", line) && printed.starts_with("slot")
+    }),
+    ("P refused 12", |line, printed| {
+        is_put_but_for("P", line) && printed == "refused 12"
+    }),
+    ("I bad line", |line, printed| {
+        is_put_but_for("I", line) && printed == steps::BAD_LINE
+    }),
+    ("U bad line", |line, printed| {
+        is_put_but_for("U", line) && printed == steps::BAD_LINE
+    }),
+    ("P not reported, slot", |line, printed| {
+        is_put_of(NOT_REPORTED, line) && printed.starts_with("slot")
+    }),
+    ("P next below not reported, refused 13", |line, printed| {
+        is_put_of(NOT_REPORTED - 1, line) && printed == "refused 13"
+    }),
+    ("R row, total one not reported", |_, printed| {
+        is_row_of(NOT_REPORTED, 0, printed)
+    }),
+    ("R row, total two not reported", |_, printed| {
+        is_row_of(NOT_REPORTED, 1, printed)
+    }),
 ];
 
 /// What was compared and agreed.
@@ -38,8 +63,8 @@ impl Found {
     }
 
     fn count(&mut self, line: &[u8], printed: &str) {
-        for (count, (letter, answer)) in self.met.iter_mut().zip(MUST_MEET) {
-            *count += usize::from(is_put_but_for(letter, line) && printed.starts_with(answer));
+        for (count, (_, is_met)) in self.met.iter_mut().zip(MUST_MEET) {
+            *count += usize::from(is_met(line, printed));
         }
     }
 
@@ -47,16 +72,16 @@ impl Found {
     pub fn missing(&self) -> Vec<String> {
         let met = self.met.iter().zip(MUST_MEET);
         met.filter(|&(&count, _)| count == 0)
-            .map(|(_, (letter, answer))| format!("steps: {letter} answered by {answer}"))
+            .map(|(_, (name, _))| format!("steps: {name}"))
             .collect()
     }
 
     pub fn print(&self) {
         let met = self.met.iter().zip(MUST_MEET);
         let shown: Vec<String> = met
-            .map(|(count, (letter, answer))| format!("{letter} {answer}: {count}"))
+            .map(|(count, (name, _))| format!("{name}: {count}"))
             .collect();
-        println!("answers to the fields of a put: {}", shown.join("; "));
+        println!("lines that must be met: {}", shown.join("; "));
         println!("{} lines of the program steps agree", self.lines);
     }
 }
@@ -65,6 +90,20 @@ impl Found {
 fn is_put_but_for(letter: &str, line: &[u8]) -> bool {
     line.strip_prefix(letter.as_bytes())
         .is_some_and(|fields| steps::call_of(&[b"P", fields].concat()).is_some())
+}
+
+/// Whether the line puts this total.
+fn is_put_of(total: i64, line: &[u8]) -> bool {
+    match steps::call_of(line) {
+        Some(Call::Put { totals, .. }) => totals.contains(&total),
+        _ => false,
+    }
+}
+
+/// Whether this total is printed, at this index, of a row.
+fn is_row_of(total: i64, index: usize, printed: &str) -> bool {
+    let totals = printed.strip_prefix("row ").map(|row| row.split(' '));
+    totals.is_some_and(|mut totals| totals.nth(index) == Some(&total.to_string()))
 }
 
 /// Compares so many inputs at random, after some that are given.

@@ -114,7 +114,7 @@ impl Block {
         Ok((slots, current))
     }
 
-    fn slot(&self, index: usize) -> Slot {
+    pub fn slot(&self, index: usize) -> Slot {
         let halves = &self.words[FIRST_SLOT + index * SLOT_HALVES..][..SLOT_HALVES];
         let words: Vec<i64> = halves
             .chunks_exact(WORD_HALVES)

@@ -80,11 +80,20 @@ pub enum Call {
     LoadBlock { number: u64, block: Vec<u8> },
 }
 
+/// How many rows there are, how many of them reported each total, and the sums of
+/// what they reported.
+#[derive(Clone, PartialEq, Eq, Default, Debug)]
+pub struct RollUp {
+    pub rows: i64,
+    pub reported: [i64; 2],
+    pub sums: Totals,
+}
+
 #[derive(Clone, PartialEq, Eq, Debug)]
 pub enum Answer {
     Version(i64),
     Row(Option<Row>),
-    RollUp { count: i64, sums: Totals },
+    RollUp(RollUp),
     Slot(usize),
     Saved(Box<Block>),
     Header { slots: usize, current: i64 },
@@ -199,7 +208,11 @@ pub fn out_words(outcome: &Outcome) -> Out {
         Ok(Answer::Row(Some(row))) => {
             vec![1, row.key.one, row.key.two, row.totals[0], row.totals[1]]
         }
-        Ok(Answer::RollUp { count, sums }) => vec![*count, sums[0], sums[1]],
+        Ok(Answer::RollUp(RollUp {
+            rows,
+            reported,
+            sums,
+        })) => vec![*rows, reported[0], reported[1], sums[0], sums[1]],
         Ok(Answer::Slot(place)) => vec![*place as i64],
         Ok(Answer::Header { slots, current }) => vec![*slots as i64, *current],
     };

@@ -1,10 +1,10 @@
 //! What each call answers and writes.
 
 use crate::model::block::{self, Block};
-use crate::model::call::{Answer, Call, Lent, Outcome};
+use crate::model::call::{Answer, Call, Lent, Outcome, RollUp};
 use crate::model::record::{LARGEST_VERSION, Version};
 use crate::model::refusal::Refusal;
-use crate::model::slot::{Key, Slot, Totals, is_lawful};
+use crate::model::slot::{Key, Row, Slot, Totals, is_lawful, is_reported};
 
 /// Makes the call. A refusal leaves what is lent as it was.
 pub fn make_call(call: &Call, lent: &mut Lent) -> Outcome {
@@ -87,18 +87,27 @@ fn roll_up(lent: &Lent, session: i64, one: i64) -> Outcome {
     {
         return Err(Refusal::NotWellFormed);
     }
-    let mut count = 0;
-    let mut sums = [0, 0];
     let seen = lent
         .table
         .all_slots()
         .filter_map(|slot| slot.seen_by(session));
+    let mut answer = RollUp::default();
     for row in seen.filter(|row| row.key.one == one) {
-        count += 1;
-        sums[0] += row.totals[0];
-        sums[1] += row.totals[1];
+        add_row(&mut answer, &row);
     }
-    Ok(Answer::RollUp { count, sums })
+    Ok(Answer::RollUp(answer))
+}
+
+/// Every row is counted. A total that is not reported stays out of its own sum and
+/// count alone.
+fn add_row(answer: &mut RollUp, row: &Row) {
+    answer.rows += 1;
+    for (index, &total) in row.totals.iter().enumerate() {
+        if is_reported(total) {
+            answer.reported[index] += 1;
+            answer.sums[index] += total;
+        }
+    }
 }
 
 /// Refusals 1, 2 and 8, which every change tests first.
@@ -115,7 +124,7 @@ fn lawful(totals: Totals) -> Result<(), Refusal> {
     if is_lawful(totals) {
         Ok(())
     } else {
-        Err(Refusal::TotalOutOfRange)
+        Err(Refusal::UnlawfulTotal)
     }
 }
 

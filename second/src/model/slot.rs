@@ -6,6 +6,9 @@ use crate::model::refusal::Refusal;
 pub const SLOT_WORDS: usize = 8;
 pub const LARGEST_TOTAL: i64 = 1_000_000_000_000_000;
 
+/// What stands where a total is not reported.
+pub const NOT_REPORTED: i64 = -LARGEST_TOTAL - 1;
+
 pub const EMPTY: i64 = 0;
 pub const INSERT: i64 = 1;
 pub const UPDATE: i64 = 2;
@@ -37,10 +40,16 @@ pub struct Slot {
     pub old: Totals,
 }
 
+/// Whether the total is reported, as a 0 is.
+pub fn is_reported(total: i64) -> bool {
+    total != NOT_REPORTED
+}
+
+/// Whether each total is in range or not reported.
 pub fn is_lawful(totals: Totals) -> bool {
     totals
         .iter()
-        .all(|total| (-LARGEST_TOTAL..=LARGEST_TOTAL).contains(total))
+        .all(|&total| !is_reported(total) || (-LARGEST_TOTAL..=LARGEST_TOTAL).contains(&total))
 }
 
 impl Slot {
