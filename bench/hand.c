@@ -7,6 +7,8 @@
 #include <stdbool.h>
 #include <string.h>
 
+#include "reported.h"
+
 _Static_assert(__BYTE_ORDER__ == __ORDER_LITTLE_ENDIAN__, "a slot of a block has the bytes of a slot of the table");
 
 enum { SLOT_WORDS = 8, SLOT_HALVES = 16, MOST_WORDS = 8192, OUT_WORDS = 8, HALF_BITS = 32 };
@@ -32,7 +34,6 @@ enum {
 };
 
 static const int64_t LARGEST_VERSION = 1000000000;
-static const int64_t LARGEST_TOTAL = 1000000000000000;
 
 // A word of a slot, and half of one, wherever they stand: in a block they are not aligned.
 typedef int64_t Word __attribute__((aligned(1), may_alias));
@@ -60,7 +61,7 @@ static bool bad_version(Version v) {
     return v.current < 1 || v.current > LARGEST_VERSION || (v.active && v.current == LARGEST_VERSION);
 }
 
-static bool lawful(int64_t total) { return -LARGEST_TOTAL <= total && total <= LARGEST_TOTAL; }
+static bool lawful(int64_t total) { return PROBE_NOT_REPORTED <= total && total <= PROBE_HIGHEST_TOTAL; }
 
 static bool all_zeros(const Word *x) { return (x[0] | x[1] | x[2] | x[3] | x[4] | x[5] | x[6] | x[7]) == 0; }
 
@@ -142,23 +143,26 @@ void hand_read_key(const int64_t *table, size_t words, const int64_t record[4], 
 
 void hand_roll_up(const int64_t *table, size_t words, const int64_t record[4], int64_t session, int64_t one, int64_t out[8]) {
     Version v = version_of(record);
-    int64_t refusal = session_refusal(words, v, session), count = 0, sum_one = 0, sum_two = 0;
+    int64_t refusal = session_refusal(words, v, session), rows = 0;
+    Reported total_one = {0, 0}, total_two = {0, 0};
     for (size_t k = 0; refusal == 0 && k < words / SLOT_WORDS; k++) {
         const int64_t *x = table + k * SLOT_WORDS;
         int64_t first, second;
         if (!well_formed(x, v)) {
             refusal = BROKEN_SLOT;
         } else if (x[KEY_ONE] == one && seen(x, session, &first, &second)) {
-            count++;
-            sum_one += first;
-            sum_two += second;
+            rows++;
+            take_in_total(&total_one, first);
+            take_in_total(&total_two, second);
         }
     }
     clear(out, refusal);
     if (refusal != 0) return;
-    out[1] = count;
-    out[2] = sum_one;
-    out[3] = sum_two;
+    out[1] = rows;
+    out[2] = total_one.rows;
+    out[3] = total_two.rows;
+    out[4] = total_one.sum;
+    out[5] = total_two.sum;
 }
 
 static int64_t change_refusal(size_t words, Version v, int64_t first, int64_t second) {

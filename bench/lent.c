@@ -3,8 +3,10 @@
 
 #include <string.h>
 
+#include "../include/probe.h"
+
 enum { INSERT = 1, UPDATE, DELETE };
-enum { FIRST_RUN = 2, HUNDRED = 100, INSERTS = 60, UPDATES = 25, DELETES = 10 };
+enum { FIRST_RUN = 2, HUNDRED = 100, INSERTS = 60, UPDATES = 25, DELETES = 10, LEFT_OUT = 12 };
 enum { LOW_BITS = 33 };
 
 static const uint64_t MULTIPLIER = 6364136223846793005u, INCREMENT = 1442695040888963407u;
@@ -46,10 +48,18 @@ static void put_used(const Lent *to, size_t slot, int64_t run, int64_t operation
     put_row(to, slot, row);
 }
 
+// Leaves some of a slot's totals out, each by a draw of its own; the old totals of an insert stay 0.
+static void leave_out(const Lent *to, size_t slot, int64_t operation) {
+    for (size_t place = SLOT_TOTALS; place < (operation == INSERT ? SLOT_OLD_TOTALS : SLOT_WORDS); place++)
+        if (drawn(HUNDRED) < LEFT_OUT) to->table[slot * SLOT_WORDS + place] = to->kept[slot * SLOT_WORDS + place] = PROBE_NOT_REPORTED;
+}
+
 static void fill_mixed(const Lent *to) {
     for (size_t k = 0; k < slots; k++) {
         int64_t operation = drawn_operation(k == 0 || k == slots - 1), run = FIRST_RUN + drawn(CURRENT - FIRST_RUN + 1);
-        if (operation != 0) put_used(to, k, run, operation);
+        if (operation == 0) continue;
+        put_used(to, k, run, operation);
+        leave_out(to, k, operation);
     }
 }
 

@@ -3,6 +3,7 @@
 #include <lmdb.h>
 #include <string.h>
 
+#include "reported.h"
 #include "stores.h"
 
 enum { WORD_BYTES = 8, KEY_BYTES = 2 * WORD_BYTES, BYTE_BITS = 8, OWNER_ONLY = 0600 };
@@ -67,7 +68,8 @@ static void lmdb_read_key(void) {
 
 static void lmdb_roll_up(void) {
     uint8_t bytes[KEY_BYTES];
-    int64_t totals[2], count = 0, first = 0, second = 0;
+    int64_t totals[2], rows = 0;
+    Reported first = {0, 0}, second = {0, 0};
     put_key(bytes, one, 0);
     MDB_val key = {sizeof bytes, bytes}, value;
     must(mdb_txn_renew(reading) == 0, "mdb_txn_renew");
@@ -75,15 +77,17 @@ static void lmdb_roll_up(void) {
     for (int more = mdb_cursor_get(cursor, &key, &value, MDB_SET_RANGE); more == 0 && memcmp(key.mv_data, bytes, WORD_BYTES) == 0;
          more = mdb_cursor_get(cursor, &key, &value, MDB_NEXT)) {
         memcpy(totals, value.mv_data, sizeof totals);
-        count++;
-        first += totals[0];
-        second += totals[1];
+        rows++;
+        take_in_total(&first, totals[0]);
+        take_in_total(&second, totals[1]);
     }
     mdb_txn_reset(reading);
     memset(out, 0, sizeof out);
-    out[COUNT] = count;
-    out[SUM_ONE] = first;
-    out[SUM_TWO] = second;
+    out[ROWS] = rows;
+    out[REPORTED_ONE] = first.rows;
+    out[REPORTED_TWO] = second.rows;
+    out[SUM_ONE] = first.sum;
+    out[SUM_TWO] = second.sum;
 }
 
 static void lmdb_put(void) { put((Row){one, two, NEW_FIRST, NEW_SECOND}); }

@@ -2,6 +2,7 @@
 #include <sqlite3.h>
 #include <string.h>
 
+#include "../include/probe.h"
 #include "stores.h"
 
 static sqlite3 *base;
@@ -26,16 +27,28 @@ static void open_anew(void) {
     must(sqlite3_open(":memory:", &base) == SQLITE_OK, "sqlite3_open");
     execute("CREATE TABLE sales (one INT, two INT, first INT, second INT, PRIMARY KEY (one, two)) WITHOUT ROWID");
     by_key = prepared("SELECT first, second FROM sales WHERE one = ? AND two = ?");
-    by_group = prepared("SELECT count(*), sum(first), sum(second) FROM sales WHERE one = ?");
+    by_group = prepared("SELECT count(*), count(first), count(second), sum(first), sum(second) FROM sales WHERE one = ?");
     upsert = prepared("INSERT INTO sales VALUES (?, ?, ?, ?) ON CONFLICT (one, two) DO UPDATE SET first = excluded.first, second = excluded.second");
     take_out = prepared("DELETE FROM sales WHERE one = ? AND two = ?");
+}
+
+// A total that is not reported is NULL, which count and sum leave out by themselves.
+static void bind_total(int place, int64_t total) {
+    if (total == PROBE_NOT_REPORTED)
+        sqlite3_bind_null(upsert, place);
+    else
+        sqlite3_bind_int64(upsert, place, total);
+}
+
+static int64_t total_at(int place) {
+    return sqlite3_column_type(by_key, place) == SQLITE_NULL ? PROBE_NOT_REPORTED : sqlite3_column_int64(by_key, place);
 }
 
 static void put(Row row) {
     sqlite3_bind_int64(upsert, 1, row.one);
     sqlite3_bind_int64(upsert, 2, row.two);
-    sqlite3_bind_int64(upsert, 3, row.first);
-    sqlite3_bind_int64(upsert, 4, row.second);
+    bind_total(3, row.first);
+    bind_total(4, row.second);
     must(sqlite3_step(upsert) == SQLITE_DONE, "INSERT");
     sqlite3_reset(upsert);
 }
@@ -54,8 +67,8 @@ static void sqlite_read_key(void) {
         out[MARK] = 1;
         out[KEY_ONE] = one;
         out[KEY_TWO] = two;
-        out[TOTAL_ONE] = sqlite3_column_int64(by_key, 0);
-        out[TOTAL_TWO] = sqlite3_column_int64(by_key, 1);
+        out[TOTAL_ONE] = total_at(0);
+        out[TOTAL_TWO] = total_at(1);
     }
     sqlite3_reset(by_key);
 }
@@ -64,9 +77,7 @@ static void sqlite_roll_up(void) {
     memset(out, 0, sizeof out);
     sqlite3_bind_int64(by_group, 1, one);
     must(sqlite3_step(by_group) == SQLITE_ROW, "SELECT");
-    out[COUNT] = sqlite3_column_int64(by_group, 0);
-    out[SUM_ONE] = sqlite3_column_int64(by_group, 1);
-    out[SUM_TWO] = sqlite3_column_int64(by_group, 2);
+    for (int i = 0; i < ROLL_UP_NUMBERS; i++) out[ROWS + i] = sqlite3_column_int64(by_group, i);
     sqlite3_reset(by_group);
 }
 

@@ -10,7 +10,7 @@ typedef struct {
 
 // The places of an answer's numbers: of a row, and of a roll-up.
 enum { MARK = 1, KEY_ONE, KEY_TWO, TOTAL_ONE, TOTAL_TWO };
-enum { COUNT = 1, SUM_ONE, SUM_TWO };
+enum { ROWS = 1, REPORTED_ONE, REPORTED_TWO, SUM_ONE, SUM_TWO, ROLL_UP_NUMBERS = SUM_TWO };
 
 // `fill` takes the rows in place of what was held; a folder is given for files. The bodies read the key and roll up the group that
 // are lent, and put the totals at the key; `put_new` takes the row out again. Puts are made between `begin` and `commit`.
