@@ -18,7 +18,7 @@ enum { CHANGED_SLOT = 1 };
 // A key word that no slot of a dated table has.
 enum { NO_WORD = MOST_SLOTS };
 
-static const int64_t IDLE[RECORD_WORDS] = {CURRENT, 0, 0, 0}, ACTIVE[RECORD_WORDS] = {CURRENT, 1, 0, 0};
+static const int64_t IDLE[RECORD_WORDS] = {CURRENT, 0, CURRENT - 1, 0}, ACTIVE[RECORD_WORDS] = {CURRENT, 1, CURRENT, 0};
 
 static const struct {
     const char *name;

@@ -42,6 +42,7 @@ typedef uint32_t Half __attribute__((aligned(1), may_alias));
 typedef struct {
     int64_t current;
     bool active;
+    int64_t oldest;
 } Version;
 
 static void clear(int64_t out[8], int64_t refusal) {
@@ -50,7 +51,7 @@ static void clear(int64_t out[8], int64_t refusal) {
 }
 
 static Version version_of(const int64_t record[4]) {
-    Version version = {record[0], record[1] == 1};
+    Version version = {record[0], record[1] == 1, record[2]};
     if (record[1] != 0 && record[1] != 1) version.current = 0;
     return version;
 }
@@ -58,7 +59,8 @@ static Version version_of(const int64_t record[4]) {
 static bool bad_table(size_t words) { return words == 0 || words % SLOT_WORDS != 0 || words > MOST_WORDS; }
 
 static bool bad_version(Version v) {
-    return v.current < 1 || v.current > LARGEST_VERSION || (v.active && v.current == LARGEST_VERSION);
+    return v.current < 1 || v.current > LARGEST_VERSION || (v.active && v.current == LARGEST_VERSION) || v.oldest < 1 ||
+           (v.oldest != v.current && v.oldest != v.current - 1) || (v.active && v.oldest != v.current);
 }
 
 static bool lawful(int64_t total) { return PROBE_NOT_REPORTED <= total && total <= PROBE_HIGHEST_TOTAL; }
@@ -75,7 +77,7 @@ static int64_t session_refusal(size_t words, Version v, int64_t session) {
     if (bad_table(words)) return BAD_TABLE;
     if (bad_version(v)) return BAD_RECORD;
     if (session < 1 || session > v.current) return NO_SUCH_VERSION;
-    if (session < v.current - 1 || (v.active && session == v.current - 1)) return EXPIRED;
+    if (session < v.oldest) return EXPIRED;
     return 0;
 }
 

@@ -90,7 +90,7 @@ fn report_means(host: &Host, session: i64) -> Result<(), i64> {
 
 /// A refusal that the host has no answer to ends it, by its number.
 fn main() -> Result<(), i64> {
-    let mut host = Host { table: [0; WORDS], record: [1, 0, 0, 0] };
+    let mut host = Host { table: [0; WORDS], record: [1, 0, 1, 0] };
     let session = refresh(&mut host, 10000)?;
     report(&host, session)?;
     refresh(&mut host, 10200)?;

@@ -6,8 +6,9 @@
    table    PROBE_SLOT_WORDS words to a slot, 1 to PROBE_MOST_SLOTS slots, with
             its length in words. A fresh table is all zeros.
    record   the current version, the run mark (1 while a run is active, else 0),
-            and two words that stay as they are. PROBE_FRESH_RECORD begins one.
-            Begin and commit alter it; nothing else does.
+            the oldest open version, and a word that stays as it is.
+            PROBE_FRESH_RECORD begins one. Begin, commit and roll back alter it;
+            nothing else does.
    block    PROBE_BLOCK_BYTES bytes, a part of a saved table.
    out      the answer's numbers. Every call writes all of them: the refusal or
             0, then those that its comment names, and zeros elsewhere.
@@ -52,7 +53,7 @@ enum probe_size {
 #define PROBE_NOT_REPORTED (PROBE_LOWEST_TOTAL - 1)
 
 /* The record to begin with: int64_t record[PROBE_RECORD_WORDS] = PROBE_FRESH_RECORD; */
-#define PROBE_FRESH_RECORD {1, 0, 0, 0}
+#define PROBE_FRESH_RECORD {1, 0, 1, 0}
 
 /* What stands in out[PROBE_REFUSAL]. */
 enum probe_refusal {
@@ -60,11 +61,12 @@ enum probe_refusal {
     /* the table's length is 0, not a multiple of 8, or above PROBE_MOST_WORDS */
     PROBE_BAD_TABLE = 1,
     /* current is not in 1 to PROBE_LARGEST_VERSION, or is that with a run active;
-       or the run mark is neither 0 nor 1 */
+       the oldest open version is below 1, is neither current nor current - 1, or
+       is not current during a run; or the run mark is neither 0 nor 1 */
     PROBE_BAD_RECORD = 2,
     /* the session is below 1 or above current */
     PROBE_NO_SUCH_VERSION = 3,
-    /* the session is below current - 1, or is that while a run is active */
+    /* the session is below the oldest open version */
     PROBE_EXPIRED = 4,
     /* the slot's number is not below the slots, or the block's number is not
        from 1 to slots / PROBE_BLOCK_SLOTS rounded up */
@@ -96,7 +98,7 @@ enum probe_refusal {
 enum probe_place {
     /* every call: an enum probe_refusal */
     PROBE_REFUSAL = 0,
-    /* open, begin, commit */
+    /* open, begin, commit, roll back */
     PROBE_VERSION = 1,
     /* read slot, read key: 1 and the row, or 0 and zeros for no row */
     PROBE_IS_ROW = 1,
@@ -114,7 +116,8 @@ enum probe_place {
     PROBE_SLOT = 1,
     /* load header */
     PROBE_SLOTS = 1,
-    PROBE_CURRENT = 2
+    PROBE_CURRENT = 2,
+    PROBE_OLDEST = 3
 };
 
 /* Opens a session: it is the number that is answered, to be handed back with
@@ -123,12 +126,13 @@ enum probe_place {
    Refuses PROBE_BAD_RECORD. */
 void probe_open(const int64_t record[PROBE_RECORD_WORDS], int64_t out[PROBE_OUT_WORDS]);
 
-/* Begins a run, and marks the record.
+/* Begins a run: marks the record, and makes current the oldest open version.
    Answers PROBE_VERSION, the run's number: current + 1.
    Refuses PROBE_BAD_RECORD, PROBE_RUN_ACTIVE, PROBE_NO_VERSION_LEFT. */
 void probe_begin(int64_t record[PROBE_RECORD_WORDS], int64_t out[PROBE_OUT_WORDS]);
 
-/* Commits the run: its version is current, and no run is active.
+/* Commits the run: its version is current, no run is active, and the oldest open
+   version stays.
    Answers PROBE_VERSION, the new current version.
    Refuses PROBE_BAD_RECORD, PROBE_NO_RUN. */
 void probe_commit(int64_t record[PROBE_RECORD_WORDS], int64_t out[PROBE_OUT_WORDS]);
@@ -178,7 +182,17 @@ void probe_delete(int64_t *table, size_t words,
                   const int64_t record[PROBE_RECORD_WORDS],
                   int64_t key1, int64_t key2, int64_t out[PROBE_OUT_WORDS]);
 
-/* Saves block 0, the header: how many slots there are, and current.
+/* Rolls the run back: every open session reads what it read before the run, the
+   run ends, and current stays, so that the next run has its number again.
+   Answers PROBE_VERSION, the current version.
+   Refuses PROBE_BAD_TABLE, PROBE_BAD_RECORD, PROBE_NO_RUN, PROBE_BROKEN_SLOT (any
+   slot). */
+void probe_roll_back(int64_t *table, size_t words,
+                     int64_t record[PROBE_RECORD_WORDS],
+                     int64_t out[PROBE_OUT_WORDS]);
+
+/* Saves block 0, the header: how many slots there are, current and the oldest
+   open version.
    Answers no number, and writes the block.
    Refuses PROBE_BAD_TABLE, PROBE_BAD_RECORD, PROBE_RUN_ACTIVE. */
 void probe_save_header(const int64_t *table, size_t words,
@@ -196,7 +210,7 @@ void probe_save_block(const int64_t *table, size_t words,
                       int64_t out[PROBE_OUT_WORDS]);
 
 /* Loads block 0: what a host needs to lend a table and a record for the others.
-   Answers PROBE_SLOTS and PROBE_CURRENT.
+   Answers PROBE_SLOTS, PROBE_CURRENT and PROBE_OLDEST.
    Refuses PROBE_NOT_BLOCK, PROBE_WRONG_CHECK, PROBE_BAD_FIELD. */
 void probe_load_header(const uint8_t *block, size_t bytes,
                        int64_t out[PROBE_OUT_WORDS]);

@@ -25,7 +25,7 @@ pub header-refused : (t : List ℤ) (v : VersionRecord) (changed : List ℕ)
     → saveHeaderRefusal t v ≡ 0 → OneWordChanged (saveHeaderBlock t v) changed → loadHeaderRefusal changed ≡ 15
 unfolding loadHeaderRefusal
 header-refused t v changed allowed one =
-    end-15 changed _ (one .size) (check-wrong _ changed (header-words _ _ (header-lawful t v allowed)) (rw (header-block t v allowed) at one))
+    end-15 changed _ (one .size) (check-wrong _ changed (header-words _ _ _ (header-lawful t v allowed)) (rw (header-block t v allowed) at one))
 
 -- and so does a load of slots that no earlier test refuses
 pub block-refused : (t : List ℤ) (v : VersionRecord) (k : ℕ) (changed : List ℕ)

@@ -23,7 +23,7 @@ use Rattle.blocks.specs.LoadBlock.{loadBlockRefusal, loadBlockAnswer, lo
 use Rattle.blocks_saves.specs.HandedOut.{Hands}
 
 -- ---- a header or a block is saved
-pub header-saved : {t : List ℤ} {v : VersionRecord} {r : Saved} {n : ℕ} → saveHeaderRefusal t v ≡ n → Hands r n (headerWords (slots t) (natAbs (v .current))) → SaveHeaderContract t v r
+pub header-saved : {t : List ℤ} {v : VersionRecord} {r : Saved} {n : ℕ} → saveHeaderRefusal t v ≡ n → Hands r n (headerWords (slots t) (natAbs (v .current)) (natAbs (v .oldest))) → SaveHeaderContract t v r
 unfolding saveHeaderBlock
 header-saved e h = search (rw (← e) at h)
 

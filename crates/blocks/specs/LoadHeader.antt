@@ -7,7 +7,7 @@ use Prim.Native.Nat.{ℕ}
 use lib.IntN.{pos}
 use Rattle.laws.specs.First.{first, unless}
 use Rattle.blocks_words.specs.Words.{wordAt}
-use Rattle.blocks_headers.specs.HeaderFields.{slotsPlace, currentPlace, headerWrong}
+use Rattle.blocks_headers.specs.HeaderFields.{slotsPlace, currentPlace, oldestPlace, oldestOf, headerWrong}
 use Rattle.blocks.specs.declared.Header.{Header}
 use Rattle.blocks.specs.declared.Header.the-variants.{Holds, Refused}
 use Rattle.blocks.specs.BlockTests.{endTests}
@@ -19,11 +19,13 @@ loadHeaderTests block = endTests block (headerWrong block)
 unfoldable pub loadHeaderRefusal : List ℕ → ℕ
 loadHeaderRefusal block = first (loadHeaderTests block)
 
--- slots and current, of a header's words
+-- slots, current and oldest, of a header's words
 unfoldable pub headerOf : List ℕ → Header
-headerOf block = Holds (wordAt block slotsPlace) (pos (wordAt block currentPlace))
+headerOf block =
+    let current = pos (wordAt block currentPlace) in
+    Holds (wordAt block slotsPlace) current (oldestOf current (pos (wordAt block oldestPlace)))
 
--- load header answers slots and current
+-- load header answers slots, current and oldest
 unfoldable pub loadHeaderAnswer : List ℕ → Header
 loadHeaderAnswer block = unless (loadHeaderRefusal block) Refused (headerOf block)
 

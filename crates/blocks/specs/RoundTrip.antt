@@ -1,7 +1,7 @@
--- What was saved is loaded again. Of a save that is not refused: a load of its header answers the slots and the current
--- version, a load of its block writes the table's own slots and no other, and a load of every block of a table, into any
--- table of its length, gives that table. The calls' tests fail one by one, by the laws of their words and slots.
--- Assumes nothing.
+-- What was saved is loaded again. Of a save that is not refused: a load of its header answers the slots, the current version and the
+-- oldest open one, which with no run active are the record; a load of its block writes the table's own slots and no other; and a load
+-- of every block of a table, into any table of its length, gives that table. The calls' tests fail one by one, by the laws of their
+-- words and slots. Assumes nothing.
 use mathlib.Core.Path.{_≡_, sym, _∙_}
 use mathlib.Core.Bool.{false}
 use mathlib.Core.List.{List}
@@ -44,13 +44,23 @@ module _ (t : List ℤ) (v : VersionRecord) (allowed : saveHeaderRefusal t v ≡
   unfolding loadHeaderRefusal
   header-loads =
       let lawful = header-lawful t v allowed in
-      let made = header-words _ _ lawful in
-      rw (header-block t v allowed) (end-0 _ _ (block-length _ made) (check-right _ made) (header-right _ _ lawful))
+      let made = header-words _ _ _ lawful in
+      rw (header-block t v allowed) (end-0 _ _ (block-length _ made) (check-right _ made) (header-right _ _ _ lawful))
 
-  -- and answers the slots of the table and the current version
-  pub header-back : loadHeaderAnswer (saveHeaderBlock t v) ≡ Holds (slots t) (v .current)
+  -- and answers the slots of the table, the current version and the oldest open one
+  pub header-back : loadHeaderAnswer (saveHeaderBlock t v) ≡ Holds (slots t) (v .current) (v .oldest)
   unfolding loadHeaderAnswer
   header-back = rw header-loads (header-read t v allowed)
+
+  -- so the record of what it answers, with no run active, is the one that was saved
+  pub record-back : {count : ℕ} {current oldest : ℤ} → loadHeaderAnswer (saveHeaderBlock t v) ≡ Holds count current oldest
+      → record { current = current; active = false; oldest = oldest } ≡ v
+  unfolding saveHeaderRefusal
+  record-back {count} {current} {oldest} answered =
+      let same : Holds count current oldest ≡ Holds (slots t) (v .current) (v .oldest) = sym answered ∙ header-back in
+      let current-same : current ≡ v .current = cc in
+      let oldest-same : oldest ≡ v .oldest = cc in
+      rw (current-same, oldest-same, ← none _ tt allowed 7)
 
 -- ---- a block
 -- one table has the slots of another from a place on, so many of them, and its own elsewhere

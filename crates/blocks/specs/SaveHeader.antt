@@ -20,9 +20,9 @@ saveHeaderTests t v = idleTests t v
 unfoldable pub saveHeaderRefusal : List ℤ → VersionRecord → ℕ
 saveHeaderRefusal t v = first (saveHeaderTests t v)
 
--- the header of the table's slots and the current version
+-- the header of the table's slots, the current version and the oldest open one
 unfoldable pub saveHeaderBlock : List ℤ → VersionRecord → List ℕ
-saveHeaderBlock t v = unless (saveHeaderRefusal t v) (λ n. zeroBlock) (blockOf (headerWords (slots t) (natAbs (v .current))))
+saveHeaderBlock t v = unless (saveHeaderRefusal t v) (λ n. zeroBlock) (blockOf (headerWords (slots t) (natAbs (v .current)) (natAbs (v .oldest))))
 
 -- the contract, and that it allows one outcome
 pub record SaveHeaderContract (t : List ℤ) (v : VersionRecord) (r : Saved) : Type 0 where

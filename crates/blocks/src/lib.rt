@@ -13,9 +13,13 @@ use versions::VersionRecord;
 // The bytes of a block.
 pub const BLOCK_BYTES: usize = 512;
 
-// What load header answers: slots and current, or a refusal.
+// What load header answers: slots, current and the oldest open version, or a refusal.
 pub enum Header {
-    Holds { slots: u32, current: i64 },
+    Holds {
+        slots: u32,
+        current: i64,
+        oldest: i64,
+    },
     Refused(u32),
 }
 
@@ -65,7 +69,8 @@ pub fn save_header(table: &[i64], versions: VersionRecord) -> Saved
     }
     let count = table::slots_of(table);
     let current = versions.current;
-    let block = blocks_headers::header_block(count as u32, current as u32);
+    let oldest = versions.oldest;
+    let block = blocks_headers::header_block(count as u32, current as u32, oldest as u32);
     Saved {
         refusal: 0,
         block: block,
@@ -83,7 +88,7 @@ pub fn save_block(table: &[i64], versions: VersionRecord, number: usize) -> Save
     blocks_saves::save_slots(table, versions, number)
 }
 
-// Load header: 14, 15, 16. It answers slots and current.
+// Load header: 14, 15, 16. It answers slots, current and the oldest open version.
 pub fn load_header(block: &[u8]) -> Header
     ensures { λ r. ⌜ LoadHeaderContract (now (block .entry)) r ⌝ }
 {
@@ -96,9 +101,13 @@ pub fn load_header(block: &[u8]) -> Header
     if blocks_headers::header_wrong(block) {
         return Header::Refused(refusals::BAD_FIELD);
     }
+    let slots = blocks_words::word_at(block, blocks_headers::SLOTS_PLACE);
+    let current = blocks_words::word_at(block, blocks_headers::CURRENT_PLACE);
+    let oldest = blocks_words::word_at(block, blocks_headers::OLDEST_PLACE);
     Header::Holds {
-        slots: blocks_words::word_at(block, blocks_headers::SLOTS_PLACE),
-        current: blocks_words::word_at(block, blocks_headers::CURRENT_PLACE) as i64,
+        slots: slots,
+        current: current as i64,
+        oldest: blocks_headers::oldest_of(current, oldest),
     }
 }
 

@@ -36,6 +36,7 @@ fn main() {
     let running = VersionRecord {
         current: 1,
         active: true,
+        oldest: 1,
     };
     print(blocks::save_header(&table, running));
     print(blocks::save_block(&table, running, 1));
@@ -47,6 +48,7 @@ fn main() {
     let second = VersionRecord {
         current: 2,
         active: false,
+        oldest: 1,
     };
     print(blocks::save_block(&table, second, 1));
     table[5] = -1;

@@ -23,6 +23,7 @@ pub data Call : Type 0 where
   put : ℤ → ℤ → ℤ → ℤ → Call
   -- key one, key two
   delete : ℤ → ℤ → Call
+  rollBack : Call
   saveHeader : Call
   -- block number
   saveBlock : ℕ → Call

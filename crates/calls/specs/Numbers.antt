@@ -17,7 +17,7 @@ use Rattle.blocks.specs.declared.Loaded.the-variants as loaded
 use Rattle.calls.specs.Calls.{Answer}
 use Rattle.calls.specs.Calls as call
 
--- open, begin and commit: the version
+-- open, begin, commit and roll back: the version
 abbrev pub ofNumbered : Numbered → List ℤ
 ofNumbered (numbered.Version n) = pos 0 ∷ n ∷ []
 ofNumbered (numbered.Refused n) = pos n ∷ pos 0 ∷ []
@@ -38,10 +38,10 @@ abbrev pub ofPlaced : Placed → List ℤ
 ofPlaced (placed.InSlot k) = pos 0 ∷ pos k ∷ []
 ofPlaced (placed.Refused n) = pos n ∷ pos 0 ∷ []
 
--- load header: slots and current
+-- load header: slots, current and the oldest open version
 abbrev pub ofHeader : Header → List ℤ
-ofHeader (header.Holds n c) = pos 0 ∷ pos n ∷ c ∷ []
-ofHeader (header.Refused n) = pos n ∷ pos 0 ∷ pos 0 ∷ []
+ofHeader (header.Holds n c o) = pos 0 ∷ pos n ∷ c ∷ o ∷ []
+ofHeader (header.Refused n) = pos n ∷ pos 0 ∷ pos 0 ∷ pos 0 ∷ []
 
 -- load block: nothing more
 abbrev pub ofLoaded : Loaded → List ℤ

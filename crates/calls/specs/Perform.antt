@@ -9,11 +9,12 @@ use Rattle.reads.specs.ReadKey.{readKeyAnswer}
 use Rattle.reads_roll_up.specs.RollUp.{rollUpAnswer}
 use Rattle.changes.specs.Put.{putAnswer, putWords}
 use Rattle.changes.specs.Delete.{deleteAnswer, deleteWords}
+use Rattle.changes_roll_back.specs.RollBack.{rollBackAnswer, rollBackWords, rollBackRecord}
 use Rattle.blocks.specs.SaveHeader.{saveHeaderRefusal, saveHeaderBlock}
 use Rattle.blocks.specs.SaveBlock.{saveBlockRefusal, saveBlockBlock}
 use Rattle.blocks.specs.LoadHeader.{loadHeaderAnswer}
 use Rattle.blocks.specs.LoadBlock.{loadBlockAnswer, loadBlockWords}
-use Rattle.calls.specs.Calls.{Call, openSession, begin, commit, readSlot, readKey, rollUp, put, delete, saveHeader, saveBlock, loadHeader, loadBlock, Answer, numbered, seen, rolled, placed, saved, header, loaded}
+use Rattle.calls.specs.Calls.{Call, openSession, begin, commit, readSlot, readKey, rollUp, put, delete, rollBack, saveHeader, saveBlock, loadHeader, loadBlock, Answer, numbered, seen, rolled, placed, saved, header, loaded}
 
 -- the lent things: the table's words, the record, and the block last handed out or lent
 pub record State : Type 0 where
@@ -49,6 +50,8 @@ perform (put key1 key2 total1 total2) st =
     done (placed (putAnswer (st .words) (st .versions) key1 key2 total1 total2)) (withWords st (putWords (st .words) (st .versions) key1 key2 total1 total2))
 perform (delete key1 key2) st =
     done (placed (deleteAnswer (st .words) (st .versions) key1 key2)) (withWords st (deleteWords (st .words) (st .versions) key1 key2))
+perform rollBack st =
+    done (numbered (rollBackAnswer (st .words) (st .versions))) (withVersion (withWords st (rollBackWords (st .words) (st .versions))) (rollBackRecord (st .words) (st .versions)))
 perform saveHeader st =
     done (saved (saveHeaderRefusal (st .words) (st .versions))) (withBlock st (saveHeaderBlock (st .words) (st .versions)))
 perform (saveBlock k) st =

@@ -1,5 +1,5 @@
 // The changes, put and delete. Each begins with the tests that look at no slot, and past them does to its key's row what
-// `changes_rows` says.
+// `changes_rows` says. `running_refusal`, those tests, is a leaf for our other crates.
 ghost use mathlib.Core.Path.{_≡_};
 ghost use Rattle.changes.specs.ChangeTests.{runningRefusal};
 ghost use Rattle.changes.specs.Put.{PutContract};
@@ -24,7 +24,7 @@ fn tested_refusal(table: &[i64], versions: VersionRecord) -> u32
 }
 
 // The same. In a run that is plainly active, of a table of a lawful shape, one expression tells that there is none.
-fn running_refusal(table: &[i64], versions: VersionRecord) -> u32
+pub fn running_refusal(table: &[i64], versions: VersionRecord) -> u32
     ensures { λ r. ⌜ r ≡ runningRefusal (now (table .entry)) versions ⌝ }
 {
     if !table::bad_table(table) & versions::is_plainly_running(versions) {

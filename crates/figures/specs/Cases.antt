@@ -3,11 +3,11 @@
 -- rollerblades 3; second key is the date, total two is 0. Assumes nothing.
 use mathlib.Core.Bool.{true, false}
 use mathlib.Core.List.{List, [], _∷_, _++_}
-use Prim.Native.Nat.{ℕ}
+use Prim.Native.Nat.{ℕ, zero, suc}
 use lib.IntN.{ℤ, pos, negsuc}
 use Rattle.versions.specs.declared.VersionRecord.{VersionRecord}
 use Rattle.table.specs.Slots.{freshTable}
-use Rattle.calls.specs.Calls.{Call, begin, commit, readSlot, readKey, rollUp, put, delete}
+use Rattle.calls.specs.Calls.{Call, begin, commit, readSlot, readKey, rollUp, put, delete, rollBack}
 
 pub record Case : Type 0 where
   pub words : List ℤ
@@ -26,11 +26,17 @@ slot run operation key1 key2 current old =
 abbrev pub zeros : List ℤ
 zeros = freshTable 1
 
+-- between runs, the version before current is open too, from 1 up
+abbrev pub oldestBetween : ℕ → ℕ
+oldestBetween zero = 1
+oldestBetween (suc zero) = 1
+oldestBetween (suc (suc n)) = suc n
+
 abbrev pub idleAt : ℕ → VersionRecord
-idleAt n = record { current = pos n; active = false }
+idleAt n = record { current = pos n; active = false; oldest = pos (oldestBetween n) }
 
 abbrev pub runningAt : ℕ → VersionRecord
-runningAt n = record { current = pos n; active = true }
+runningAt n = record { current = pos n; active = true; oldest = pos n }
 
 -- the numbers of an answer: a version, a slot number, a row, no row, the sums of a roll-up, and a refusal of each kind
 abbrev pub version : ℕ → List ℤ
@@ -135,6 +141,30 @@ figure5 = record {
       ++ slot 5 3 2 19961014 12000 12000
       ++ slot 5 1 1 19961016 11000 0
       ++ slot 5 1 3 19961013 6000 0;
+  versions-after = runningAt 4;
+}
+
+-- rolled back, run 5 leaves what session 4 read: slots 0 and 2 are inserts at 4 with their old totals, slots 3 and 4 are empty; session
+-- 3 stays expired, and the next run is run 5 again
+abbrev pub figure5Back : Case
+figure5Back = record {
+  words = slot 5 2 1 19961014 10200 10000
+      ++ slot 4 1 1 19961015 1500 0
+      ++ slot 5 3 2 19961014 12000 12000
+      ++ slot 5 1 1 19961016 11000 0
+      ++ slot 5 1 3 19961013 6000 0;
+  versions = runningAt 4;
+  calls = rollBack
+      ∷ readSlot (pos 4) 0 ∷ readSlot (pos 4) 1 ∷ readSlot (pos 4) 2 ∷ readSlot (pos 4) 3 ∷ readSlot (pos 4) 4 ∷ readSlot (pos 3) 0
+      ∷ rollBack ∷ begin ∷ [];
+  numbers = version 4
+      ∷ row 1 19961014 10000 ∷ row 1 19961015 1500 ∷ row 2 19961014 12000 ∷ none ∷ none ∷ readRefused 4
+      ∷ changeRefused 8 ∷ version 5 ∷ [];
+  words-after = slot 4 1 1 19961014 10000 0
+      ++ slot 4 1 1 19961015 1500 0
+      ++ slot 4 1 2 19961014 12000 0
+      ++ zeros
+      ++ zeros;
   versions-after = runningAt 4;
 }
 
@@ -247,6 +277,7 @@ cases =
     ∷ rollUps
     ∷ afterBegin
     ∷ figure5
+    ∷ figure5Back
     ∷ newKeyPutTwice
     ∷ deleteThenPut
     ∷ newKeyDeleted

@@ -24,6 +24,7 @@ use Rattle.reads_roll_up.specs.RollUp.{rollUpRefusal, rollUpAnswer}
 use Rattle.changes_cells.specs.Tables.{changed}
 use Rattle.changes.specs.Put.{putRefusal, putAnswer, putWords}
 use Rattle.changes.specs.Delete.{deleteRefusal, deleteAnswer, deleteWords}
+use Rattle.changes_roll_back.specs.RollBack.{rolledBack, rollBackRefusal, rollBackAnswer, rollBackWords, rollBackRecord}
 use Rattle.calls.specs.Calls.{Call}
 use Rattle.calls.specs.Numbers.{numbers}
 use Rattle.calls.specs.Perform.{State, perform}
@@ -50,5 +51,5 @@ abbrev pub outcome : Case → Outcome
 outcome c = perform-all (c .calls) (record { words = c .words; versions = c .versions; block = [] })
 
 pub figures : map outcome cases ≡ map expected cases
-unfolding all any first lowest some badRecord unborn expired beginRefusal beginAnswer beginRecord commitRefusal commitAnswer commitRecord badTable slotAt putSlot column live lawful reported unlawful allZeros totalsLawful usedWell wellFormed anyBroken hasKey keySlot longDeleted free freeSlot shown readSlotRefusal readSlotAnswer readKeyRefusal readKeyAnswer rollUpRefusal rollUpAnswer changed putRefusal putAnswer putWords deleteRefusal deleteAnswer deleteWords
+unfolding all any first lowest some badRecord unborn expired beginRefusal beginAnswer beginRecord commitRefusal commitAnswer commitRecord badTable slotAt putSlot column live lawful reported unlawful allZeros totalsLawful usedWell wellFormed anyBroken hasKey keySlot longDeleted free freeSlot shown readSlotRefusal readSlotAnswer readKeyRefusal readKeyAnswer rollUpRefusal rollUpAnswer changed putRefusal putAnswer putWords deleteRefusal deleteAnswer deleteWords rolledBack rollBackRefusal rollBackAnswer rollBackWords rollBackRecord
 figures = refl

@@ -25,10 +25,11 @@ use Rattle.reads_roll_up.specs.RollUp.{rollUpRefusal, rollUpAnswer}
 use Rattle.changes_cells.specs.Tables.{changed}
 use Rattle.changes.specs.Put.{putRefusal, putAnswer, putWords}
 use Rattle.changes.specs.Delete.{deleteRefusal, deleteAnswer, deleteWords}
+use Rattle.changes_roll_back.specs.RollBack.{rolledBack, rollBackRefusal, rollBackAnswer, rollBackWords, rollBackRecord}
 use Rattle.calls.specs.Seen.{Seen}
 use Rattle.calls.specs.Seen as seen
 use Rattle.calls.specs.Rolled as rolled
-use Rattle.calls.specs.Calls.{Call, begin, commit, put, delete, readKey, rollUp}
+use Rattle.calls.specs.Calls.{Call, begin, commit, put, delete, rollBack, readKey, rollUp}
 use Rattle.calls.specs.Calls as answer
 use Rattle.history.specs.Databases.{found, rolledUp}
 use Rattle.history.specs.Followed.{databaseAt}
@@ -48,6 +49,10 @@ correctedTwice = withRow (put (pos 1) (pos 14) (pos 110) (pos 5) ∷ put (pos 1)
 -- run 3 deletes it and puts it in again
 abbrev deletedPut : World twoVersions
 deletedPut = withRow (delete (pos 1) (pos 14) ∷ put (pos 1) (pos 14) (pos 130) (pos 5) ∷ [])
+
+-- run 3 corrects it and is rolled back
+abbrev correctedBack : World twoVersions
+correctedBack = withRow (put (pos 1) (pos 14) (pos 110) (pos 5) ∷ rollBack ∷ [])
 
 -- run 3 deletes it, and another key finds no slot
 abbrev deletedAnother : World twoVersions
@@ -84,12 +89,15 @@ pub record Held : Type 0 where
   pub deleted-another : KeyRead deletedAnother 2 (pos 1) (pos 14)
   -- 5. once run 3 has begun, version 1 is gone
   pub gone : KeyRead (withRow []) 1 (pos 1) (pos 14)
+  -- 9. and stays gone where run 3 is rolled back, after which a session at 2 reads the row as it was
+  pub gone-still : KeyRead correctedBack 1 (pos 1) (pos 14)
+  pub corrected-back : KeyRead correctedBack 2 (pos 1) (pos 14)
   -- a region's roll-up has its rows, how many of them reported each total, and the sum of each total as they reported it
   pub region : RegionRead partlyReported 2 (pos 1)
 
 -- the roll-up stands apart, so that a build that breaks a read of a key is refused there too
 summed : RegionRead partlyReported 2 (pos 1)
-unfolding all any first lowest some badRecord unborn expired beginRefusal beginAnswer beginRecord commitRefusal commitAnswer commitRecord badTable slotAt putSlot column live lawful reported unlawful allZeros totalsLawful usedWell wellFormed anyBroken hasKey keySlot longDeleted free freeSlot shown readSlotRefusal readSlotAnswer rollUpRefusal rollUpAnswer changed putRefusal putAnswer putWords deleteRefusal deleteAnswer deleteWords readKeyRefusal readKeyAnswer
+unfolding all any first lowest some badRecord unborn expired beginRefusal beginAnswer beginRecord commitRefusal commitAnswer commitRecord badTable slotAt putSlot column live lawful reported unlawful allZeros totalsLawful usedWell wellFormed anyBroken hasKey keySlot longDeleted free freeSlot shown readSlotRefusal readSlotAnswer rollUpRefusal rollUpAnswer changed putRefusal putAnswer putWords deleteRefusal deleteAnswer deleteWords rolledBack rollBackRefusal rollBackAnswer rollBackWords rollBackRecord readKeyRefusal readKeyAnswer
 summed = record { gone = λ h. absurd (omega arith); kept = λ still. got ∙ ap answer.rolled (sym sums) }
   where
     got : answerOf {K = twoVersions} (rollUp (pos 2) (pos 1)) partlyReported ≡ answer.rolled (rolled.Sums 3 2 1 (pos 100) (pos 5))
@@ -99,7 +107,7 @@ summed = record { gone = λ h. absurd (omega arith); kept = λ still. got ∙ ap
     sums = refl
 
 pub held : Held
-unfolding all any first lowest some badRecord unborn expired beginRefusal beginAnswer beginRecord commitRefusal commitAnswer commitRecord badTable slotAt putSlot column live lawful reported unlawful allZeros totalsLawful usedWell wellFormed anyBroken hasKey keySlot longDeleted free freeSlot shown readSlotRefusal readSlotAnswer rollUpRefusal rollUpAnswer changed putRefusal putAnswer putWords deleteRefusal deleteAnswer deleteWords readKeyRefusal readKeyAnswer
+unfolding all any first lowest some badRecord unborn expired beginRefusal beginAnswer beginRecord commitRefusal commitAnswer commitRecord badTable slotAt putSlot column live lawful reported unlawful allZeros totalsLawful usedWell wellFormed anyBroken hasKey keySlot longDeleted free freeSlot shown readSlotRefusal readSlotAnswer rollUpRefusal rollUpAnswer changed putRefusal putAnswer putWords deleteRefusal deleteAnswer deleteWords rolledBack rollBackRefusal rollBackAnswer rollBackWords rollBackRecord readKeyRefusal readKeyAnswer
 held = record {
   corrected-twice = read-as correctedTwice 2 (pos 1) (pos 14) (seen.Row (pos 1) (pos 14) (pos 100) (pos 5)) (λ h. omega arith) refl refl;
   put-corrected = read-as putCorrected 1 (pos 1) (pos 14) seen.NoRow (λ h. omega arith) refl refl;
@@ -107,5 +115,7 @@ held = record {
   no-room = record { full = λ f. refl; room = λ room. absurd (room (refl, refl)) };
   deleted-another = read-as deletedAnother 2 (pos 1) (pos 14) (seen.Row (pos 1) (pos 14) (pos 100) (pos 5)) (λ h. omega arith) refl refl;
   gone = record { gone = λ h. refl; kept = λ still. absurd (still (omega arith)) };
+  gone-still = record { gone = λ h. refl; kept = λ still. absurd (still (omega arith)) };
+  corrected-back = read-as correctedBack 2 (pos 1) (pos 14) (seen.Row (pos 1) (pos 14) (pos 100) (pos 5)) (λ h. omega arith) refl refl;
   region = summed;
 }

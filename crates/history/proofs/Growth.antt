@@ -1,8 +1,8 @@
 -- What is followed only grows: runs that have begun, databases committed; a committed database is never altered, since a run adds
--- to the end of the log: so after a change and after a run given up, which touch no run that was committed, after a begin, and
+-- to the end of the log: so after a change and after a roll back, which touch no run that was committed, after a begin, and
 -- after a commit. And a run makes its database of the one before. By induction on the runs. Assumes nothing.
 use mathlib.Core.Path.{_≡_, refl, ap, _∙_}
-use mathlib.Core.Bool.{Bool, false}
+use mathlib.Core.Bool.{Bool}
 use mathlib.Core.List.{List, [], _∷_, _++_}
 use Prim.Native.Nat.{ℕ, zero, suc, _-_, _≤_, _<_}
 use native.Mathlib.Omega.{arith}
@@ -56,13 +56,10 @@ grows-twice x y = record {
 pub current-committed : (g : Followed) → Committed g (current g)
 current-committed g = record { from = omega arith; to = omega arith }
 
--- ---- what leaves the runs that were committed and those that have begun: a change, and a run given up, whose changes are dropped
+-- ---- what leaves the runs that were committed and those that have begun: a change, and a roll back, which drops the changes
 pub standing-grows : (g : Followed) (l : List Change) (a : Bool)
     → Grows g (record { origin = g .origin; opening = g .opening; runs = g .runs; changes = l; begun = g .begun; active = a })
 standing-grows g l a = record { origin = refl; begun = omega arith; current = omega arith; databases = λ s c. refl }
-
-abbrev pub runUndone : Followed → Followed
-runUndone g = record { origin = g .origin; opening = g .opening; runs = g .runs; changes = []; begun = g .begun; active = false }
 
 -- one change more makes one more of the running database
 pub running-changed : (g : Followed) (c : Change) → running (withChange c g) ≡ changed c (running g)

@@ -16,7 +16,7 @@ use Rattle.history.proofs.Growth.{Grows, grown, grows-twice, standing-g
 pub record Inv (n m : ℕ) (T : View) (g : Followed) : Type 0 where
   pub many : 2 ≤ n
   pub distinct : Distinct T
-  -- the last run that has begun is current's or the next; a run given up has begun
+  -- the last run that has begun is current's or the next; one that was rolled back has begun
   pub low : current g ≤ g .begun
   pub high : g .begun ≤ suc (current g)
   pub in-run : g .active ≡ true → g .begun ≡ suc (current g)

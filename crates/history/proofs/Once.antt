@@ -8,7 +8,7 @@ use Prim.Native.Nat.{ℕ, zero, suc, _-_}
 use lib.IntN.{ℤ}
 use Rattle.laws.specs.TestLaws.{by-test}
 use Rattle.history.specs.Databases.{Database, isKey, holds, NoRepeat, without, Change, gives, takesOut, changed, madeBy}
-use Rattle.history.specs.Followed.{Followed, current, afterRuns, databaseAt, running, Heard, wentIn, beganRun, committedRun, loadedBlock, withChanges, withChange, hear}
+use Rattle.history.specs.Followed.{Followed, current, afterRuns, databaseAt, running, Heard, wentIn, beganRun, committedRun, rolledBackRun, loadedBlock, withChanges, withChange, hear}
 use Rattle.history.specs.Kinds.{Kind, World, heardOf, next, after}
 use Rattle.history.proofs.DatabaseLaws.{neither}
 
@@ -60,6 +60,7 @@ heard-opening : (x : Heard) (g : Followed) → hear x g .opening ≡ g .opening
 heard-opening (wentIn l) g = opening-stays l g
 heard-opening beganRun g = refl
 heard-opening committedRun g = refl
+heard-opening rolledBackRun g = refl
 heard-opening loadedBlock g = refl
 
 pub opening-after : {K : Kind} (h : List (K .Call)) (w : World K) → after h w .told .opening ≡ w .told .opening

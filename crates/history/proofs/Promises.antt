@@ -123,6 +123,7 @@ module _ {K : Kind} (A : Argument K) where
       begun = λ call e. ap (λ x. running (hear x (w .told))) e;
       changed = λ call l e. ap (λ x. running (hear x (w .told))) e ∙ running-with l (w .told);
       committed = λ call e. ap (λ x. databaseAt (hear x (w .told)) (suc (current (w .told)))) e ∙ last-database (w .told);
+      rolled-back = λ call e. ap (λ x. running (hear x (w .told))) e;
       made = run-made (w .told);
       kept = λ s c h no-load. after-step A m w i h no-load .step .grows .databases s c;
       settled = λ idle. ap (λ l. madeBy l (databaseAt (w .told) (current (w .told)))) (i .inv .settled idle);

@@ -1,22 +1,26 @@
 -- The version record of two versions in a history: it is sound, says what was followed, and expires a committed version exactly
--- when that is gone. So at a start, at whatever version; a change leaves it so, and so do begin and commit, by the law of expiry.
--- Assumes nothing.
+-- when that is gone. So at a start, at whatever version; a change leaves it so, and so do begin, which makes current the oldest open
+-- version, and commit and roll back, which keep it. Assumes nothing.
 use mathlib.Core.Path.{_≡_, refl, sym, ap, _∙_}
 use mathlib.Core.Bool.{true, false}
 use Prim.Native.Nat.{ℕ, suc, _+_, _≤_}
 use native.Mathlib.Numerals.{add-one}
 use native.Mathlib.Omega.{arith}
-use lib.Dec.{leb}
-use lib.IntN.{pos, _+ℤ_}
-use borrow.Author.Tests.{le-leb, lt-leb}
+use lib.Dec.{leb, ltb}
+use lib.IntN.{pos, natAbs, _+ℤ_}
+use borrow.Author.Tests.{ltb-true, ltb-false, le-ltb, le-leb, lt-leb}
+use Rattle.laws.specs.TestLaws.{by-test}
 use Rattle.versions.specs.declared.VersionRecord.{VersionRecord}
 use Rattle.versions.specs.Record.{badRecord, runNumber}
+use Rattle.versions.specs.RecordLaws.{sound, counts}
 use Rattle.versions.specs.Sessions.{unborn, expired}
 use Rattle.versions.specs.SessionLaws.{born, expires}
 use Rattle.versions_runs.specs.Runs.{beginRefusal, begunFrom, commitRefusal, committedFrom}
 use Rattle.versions_runs.specs.RunLaws.{can-commit, begun-sound, committed-sound}
+use Rattle.changes_roll_back.specs.RollBack.{rolledBackFrom}
+use Rattle.changes_roll_back.specs.RollBackLaws.{rolled-back-sound}
 use Rattle.history.specs.Databases.{Database, Change}
-use Rattle.history.specs.Followed.{Followed, starting, current, Committed, Gone, withChange, runBegun, runCommitted}
+use Rattle.history.specs.Followed.{Followed, starting, current, Committed, Gone, withChange, runBegun, runCommitted, runRolledBack}
 use Rattle.history.proofs.Growth.{counted}
 
 pub record Recorded (v : VersionRecord) (g : Followed) : Type 0 where
@@ -30,7 +34,21 @@ pub record Recorded (v : VersionRecord) (g : Followed) : Type 0 where
 pub start-recorded : {v : VersionRecord} (c : ℕ) (d : Database) → badRecord v ≡ false → v .active ≡ false → v .current ≡ pos c → 1 ≤ c → Recorded v (starting c d)
 start-recorded {v} c d known idle version low =
     let at : v .current ≡ pos (current (starting c d)) = version ∙ ap pos (omega arith) in
-    record { known = known; origin = low; version = at; active = idle; expiry = λ s h. expires v c s version low ∙ rw idle }
+    let n = counts known in
+    let same : n .current-number ≡ c = ap natAbs (sym (n .current) ∙ version) in
+    record {
+      known = known;
+      origin = low;
+      version = at;
+      active = idle;
+      expiry = λ s h. expires v _ s (n .oldest) ∙ le-ltb s _ (omega (arith, n .below, h .from)) ∙ sym (lt-leb (s + 2) c (omega (arith, h .to)));
+    }
+
+-- once the run after a version c has begun, what is gone is what is below c
+below-gone : (c s : ℕ) → ltb s c ≡ leb (s + 2) (suc c)
+below-gone c s =
+    by-test (ltb s c) (λ y. y ∙ sym (le-leb (s + 2) (suc c) (omega (arith, ltb-true s c y))))
+    (λ n. n ∙ sym (lt-leb (s + 2) (suc c) (omega (arith, ltb-false s c n))))
 
 module _ {v : VersionRecord} {g : Followed} (x : Recorded v g) where
   pub run-is : pos (suc (current g)) ≡ runNumber v
@@ -62,7 +80,17 @@ module _ {v : VersionRecord} {g : Followed} (x : Recorded v g) where
     origin = x .origin;
     version = x .version;
     active = refl;
-    expiry = λ s c. expires (begunFrom v) (current g) s (x .version) (omega (arith, x .origin));
+    expiry = λ s c. expires (begunFrom v) (current g) s (x .version) ∙ below-gone (current g) s;
+  }
+
+  -- a roll back ends the run and keeps the rest
+  pub roll-back-recorded : v .active ≡ true → g .begun ≡ suc (current g) → Recorded (rolledBackFrom v) (runRolledBack g)
+  roll-back-recorded a begun = record {
+    known = rolled-back-sound v (x .known);
+    origin = x .origin;
+    version = x .version;
+    active = refl;
+    expiry = λ s c. expires (rolledBackFrom v) (current g) s (sound (x .known) .newest a ∙ x .version) ∙ rw begun (below-gone (current g) s);
   }
 
   module _ (h : commitRefusal v ≡ 0) where
@@ -77,5 +105,5 @@ module _ {v : VersionRecord} {g : Followed} (x : Recorded v g) where
           origin = x .origin;
           version = version;
           active = refl;
-          expiry = λ s c. expires (committedFrom v) (current (runCommitted g)) s version (omega (arith, x .origin)) ∙ rw (counted g, begun);
+          expiry = λ s c. expires (committedFrom v) (current g) s (sound (x .known) .newest (can-commit v h .active) ∙ x .version) ∙ rw begun (below-gone (current g) s);
         }

@@ -1,5 +1,5 @@
 -- What every call does to the table of two versions: the table and its record stay sound, and its view makes a step. A refused
--- call leaves the words, the record and what is followed as they were; an accepted change, begin or commit is a lemma of `Table`.
+-- call leaves the words, the record and what is followed as they were; an accepted change, begin, commit or roll back is a lemma of `Table`.
 -- Assumes nothing.
 use mathlib.Core.Path.{_≡_, refl, sym, ap, _∙_}
 use mathlib.Core.Bool.{false}
@@ -15,9 +15,11 @@ use Rattle.versions_runs.specs.Runs.{beginRefusal, commitRefusal}
 use Rattle.reads.specs.declared.Seen.{Seen}
 use Rattle.changes_rows.specs.declared.Placed.{Placed}
 use Rattle.changes.specs.ChangesAccepted.{Came, refuses, accepts, put-came, delete-came}
+use Rattle.changes_roll_back.specs.RollBack.{rollBackRefusal}
+use Rattle.changes_roll_back.specs.RollBackLaws.{roll-back-refuses, roll-back-accepts}
 use Rattle.blocks.specs.ContractLaws as load
 use Rattle.blocks.specs.LoadBlock.{loadBlockRefusal}
-use Rattle.calls.specs.Calls.{Call, openSession, begin, commit, readSlot, readKey, rollUp, put, delete, saveHeader, saveBlock, loadHeader, loadBlock}
+use Rattle.calls.specs.Calls.{Call, openSession, begin, commit, readSlot, readKey, rollUp, put, delete, rollBack, saveHeader, saveBlock, loadHeader, loadBlock}
 use Rattle.calls.specs.Calls as answer
 use Rattle.calls.specs.Perform.{withWords, withVersion}
 use Rattle.history.specs.Databases.{without, Change, changed, rowsOf}
@@ -27,9 +29,9 @@ use Rattle.history.specs.TwoVersions.{heardChanges, ifAccepted, twoVersi
 use Rattle.history.proofs.Views.{View}
 use Rattle.history.proofs.Invariant.{Step, same-step}
 use Rattle.history.proofs.SlotWritten.{written-step}
-use Rattle.history.proofs.Turns.{begin-step, commit-step}
+use Rattle.history.proofs.Turns.{begin-step, commit-step, undo-step}
 use Rattle.history.proofs.Recorded.{commit-runs}
-use Rattle.history.proofs.Table.{viewOf, Sound, change-written, change-sound, same-above, begin-sound, commit-sound}
+use Rattle.history.proofs.Table.{viewOf, Sound, change-written, change-sound, same-above, begin-sound, commit-sound, back-fewer, back-stays, back-sound}
 use Rattle.history.proofs.Argument.{Stands, Went}
 
 abbrev pub TableWorld : Type 0
@@ -64,6 +66,19 @@ module _ (m : ℕ) (w : TableWorld) (i : Well m w) where
   turn x r v′ later (suc n) refuse accept sound step =
       let no-turn = refuse n refl in
       quiet _ refl (no-turn .record-kept) (rw (no-turn .answer, eqb·suc-zero n) refl)
+
+  -- a roll back, by its refusal
+  undone : (refusal : ℕ) → rollBackRefusal (w .state .words) (w .state .versions) ≡ refusal → Goes m w (next {K = twoVersions} rollBack w)
+  undone zero e =
+      let ok = roll-back-accepts (w .state .words) (w .state .versions) e in
+      rw (ok .answer)
+      (record {
+        sound = rw (ok .record-after, ok .words) (back-sound (i .sound) (i .inv) e);
+        step = rw (ok .words) (undo-step (i .inv) (back-fewer (i .sound) (i .inv) e) (back-stays (i .sound) (i .inv) e));
+      })
+  undone (suc n) e =
+      let no-turn = roll-back-refuses (w .state .words) (w .state .versions) n e in
+      quiet _ (no-turn .words) (no-turn .record-kept) (rw (no-turn .answer, eqb·suc-zero n) refl)
 
   -- a change, by what came of it; an accepted one makes of the running database what its effect says
   change : (c : Change) (key1 key2 : ℤ) (after : Seen) (r : Placed) (t′ : List ℤ)
@@ -101,7 +116,8 @@ module _ (m : ℕ) (w : TableWorld) (i : Well m w) where
   next-step (rollUp s key1) no-load = quiet _ refl refl refl
   next-step (put key1 key2 total1 total2) no-load = change _ key1 key2 _ _ _ refl (put-came _ _ key1 key2 total1 total2 (i .sound .whole) (i .inv .distinct .slot))
   next-step (delete key1 key2) no-load = change _ key1 key2 _ _ _ refl (delete-came _ _ key1 key2 (i .sound .whole) (i .inv .distinct .slot))
+  next-step rollBack no-load = undone _ refl
   next-step saveHeader no-load = quiet _ refl refl refl
   next-step (saveBlock k) no-load = quiet _ refl refl refl
-  next-step (loadHeader total2) no-load = quiet _ refl refl refl
-  next-step (loadBlock k total2) no-load = load-refused k total2 _ refl no-load
+  next-step (loadHeader given) no-load = quiet _ refl refl refl
+  next-step (loadBlock k given) no-load = load-refused k given _ refl no-load

@@ -1,6 +1,6 @@
 -- The table of two versions as a view: a version sees of a slot what Table 1 shows, and a slot has the key of its words. The key
 -- search finds a key's place. An accepted change writes one slot to its effect; at a begin no slot is of a run above current, so
--- that the next number shows what current shows. What the table itself keeps in a history is `Sound`. Assumes nothing.
+-- that the next number shows what current shows; a roll back leaves what current shows of each slot. What the table itself keeps in a history is `Sound`. Assumes nothing.
 use mathlib.Core.Path.{_≡_, refl, sym, _∙_}
 use mathlib.Core.Bool.{true}
 use mathlib.Core.Logic.{⊎-elim}
@@ -29,13 +29,15 @@ use Rattle.reads.specs.Table1.{shown}
 use Rattle.reads.specs.Table1Laws.{shown-empty}
 use Rattle.reads.specs.ShownLaws.{shown-own, shown-later}
 use Rattle.changes.specs.Whole.{Whole, Wrote, written-slot, other-slot, whole-after}
+use Rattle.changes_roll_back.specs.RollBack.{rolledBack, slotsBack, rolledBackFrom, rollBackRefusal}
+use Rattle.changes_roll_back.specs.RollBackLaws.{CanRollBack, can-roll-back, back-slot, back-slots, back-key, back-shown, back-whole}
 use Rattle.history.specs.Databases.{Change}
-use Rattle.history.specs.Followed.{Followed, freshStart, current, withChange, runBegun, runCommitted}
+use Rattle.history.specs.Followed.{Followed, freshStart, current, Committed, Gone, withChange, runBegun, runCommitted, runRolledBack}
 use Rattle.history.specs.Kinds.{Size}
 use Rattle.history.proofs.Views.{View, Owned, Place, here, nowhere, rowsAt}
 use Rattle.history.proofs.Invariant.{Inv, start-inv}
 use Rattle.history.proofs.SlotWritten.{Written}
-use Rattle.history.proofs.Recorded.{Recorded, start-recorded, run-is, change-recorded, begin-recorded, commit-runs, commit-recorded}
+use Rattle.history.proofs.Recorded.{Recorded, start-recorded, run-is, change-recorded, begin-recorded, commit-runs, commit-recorded, roll-back-recorded}
 
 abbrev pub viewOf : List ℤ → View
 viewOf t = record {
@@ -130,3 +132,32 @@ module _ {m : ℕ} {t : List ℤ} {v : VersionRecord} {g : Followed} (x : Sound 
     whole = later-whole (rw (can-commit v h .active) (leZ-refl (runNumber v)));
     recorded = commit-recorded (x .recorded) h (i .in-run (commit-runs (x .recorded) h));
   }
+
+  -- ---- a roll back puts every slot back: a run is active, so the one open version is current, which sees what it saw
+  module _ (i : Inv 2 m (viewOf t) g) (h : rollBackRefusal t v ≡ 0) where
+    can : CanRollBack t v
+    can = can-roll-back t v h
+
+    abbrev back : List ℤ
+    back = slotsBack t v (slots t)
+
+    back-at : (k : ℕ) → slotAt back k ≡ rolledBack v (slotAt t k)
+    back-at = back-slot t v (can .shape) (can .known)
+
+    pub in-run : g .active ≡ true
+    in-run = sym (x .recorded .active) ∙ can .active
+
+    pub back-fewer : (j : ℕ) (p q : ℤ) → hasKey (slotAt back j) p q ≡ true → hasKey (slotAt t j) p q ≡ true
+    back-fewer j p q y = back-key v (can .known) (can .active) (slotAt t j) (can .formed j) p q (rw (back-at j) at y)
+
+    pub back-stays : (s : ℕ) → Committed g s → (Gone 2 g s → ⊥) → (k : ℕ) → shown (pos s) (slotAt back k) ≡ shown (pos s) (slotAt t k)
+    back-stays s c still k =
+        let e : s ≡ current g = omega (arith, i .in-run in-run) in
+        rw (e, ← x .recorded .version, back-at k) (back-shown v (can .known) (can .active) (slotAt t k) (can .formed k))
+
+    pub back-sound : Sound m back (rolledBackFrom v) (runRolledBack g)
+    back-sound = record {
+      size = back-slots t v (slots t) ∙ x .size;
+      whole = back-whole t v can;
+      recorded = roll-back-recorded (x .recorded) (can .active) (i .in-run in-run);
+    }

@@ -1,6 +1,6 @@
--- Begin, commit, and a run given up are steps. Begin and commit write no slot: at a begin the run's number shows what current
--- shows, whose rows are the current database, which is the running one; at a commit that number becomes current. A run given up
--- leaves what the open versions show, and its number has begun. Assumes nothing.
+-- Begin, commit and roll back are steps. Begin and commit write no slot: at a begin the run's number shows what current
+-- shows, whose rows are the current database, which is the running one; at a commit that number becomes current. A roll back
+-- leaves what the open versions show, and the run has begun. Assumes nothing.
 use mathlib.Core.Path.{_≡_, refl}
 use mathlib.Core.Bool.{true}
 use Prim.Native.Nat.{ℕ, suc}
@@ -9,10 +9,10 @@ use lib.Dec.{eqb}
 use lib.IntN.{ℤ}
 use borrow.Author.Tests.{eqb-true, eqb-false}
 use Rattle.laws.specs.TestLaws.{by-test, clash}
-use Rattle.history.specs.Followed.{Followed, current, Committed, Gone, runBegun, runCommitted}
+use Rattle.history.specs.Followed.{Followed, current, Committed, Gone, runBegun, runCommitted, runRolledBack}
 use Rattle.history.proofs.Rows.{rows-same}
 use Rattle.history.proofs.Views.{View}
-use Rattle.history.proofs.Growth.{current-committed, standing-grows, runUndone, begin-grows, counted, commit-grows, last-database}
+use Rattle.history.proofs.Growth.{current-committed, standing-grows, begin-grows, counted, commit-grows, last-database}
 use Rattle.history.proofs.Invariant.{Inv, current-open, Step, rows-stay}
 
 module _ {n m : ℕ} {T : View} {g : Followed} (i : Inv n m T g) where
@@ -52,9 +52,9 @@ module _ {n m : ℕ} {T : View} {g : Followed} (i : Inv n m T g) where
     stays = λ s c kept k. refl;
   }
 
-  -- ---- a run given up: each slot shows at each open version what it showed, and has no key that it had not
+  -- ---- a roll back: each slot shows at each open version what it showed, and has no key that it had not
   pub undo-step : {T′ : View} → ((j : ℕ) (p q : ℤ) → T′ .has j p q ≡ true → T .has j p q ≡ true)
-      → ((s : ℕ) → Committed g s → (Gone n g s → ⊥) → (k : ℕ) → T′ .shown s k ≡ T .shown s k) → Step n m T g T′ (runUndone g)
+      → ((s : ℕ) → Committed g s → (Gone n g s → ⊥) → (k : ℕ) → T′ .shown s k ≡ T .shown s k) → Step n m T g T′ (runRolledBack g)
   undo-step {T′} fewer same = record {
     inv = record {
       many = i .many;

@@ -17,7 +17,7 @@ use Rattle.calls.specs.Placed as placed
 use Rattle.calls.specs.Calls.{Answer}
 use Rattle.calls.specs.Calls as answer
 use Rattle.history.specs.Databases.{Database, holds, NoRepeat, Change, madeBy, found, IsOf, rolledUp, upTo, allTogether}
-use Rattle.history.specs.Followed.{current, changesOf, databaseAt, running, Committed, Gone, openVersions, wentIn, beganRun, committedRun}
+use Rattle.history.specs.Followed.{current, changesOf, databaseAt, running, Committed, Gone, openVersions, wentIn, beganRun, committedRun, rolledBackRun}
 use Rattle.history.specs.Kinds.{Kind, accepted, Size, World, freshWorld, answerOf, heardOf, next, after, NoLoad}
 use Rattle.history.specs.SessionTurns.{Turn, callsOf, slotsAsked, answersGot, NoneRefused, rowsGot}
 
@@ -36,7 +36,7 @@ pub data Shows (d : Database) : Answer → Type 0 where
 
 module _ {K : Kind} where
   -- ---- runs: open answers the current version; begin is accepted exactly with no run active and a version left, commit exactly
-  -- in a run, and both answer the next version
+  -- in a run, and both answer the next version; roll back is accepted exactly in a run, and answers the current version
   pub record Runs (w : World K) : Type 0 where
     pub opened : answerOf (K .openSession) w ≡ answer.numbered (numbered.Version (pos (current (w .told))))
     pub begun : w .told .active ≡ false → current (w .told) < natAbs largestVersion → answerOf (K .begin) w ≡ answer.numbered (numbered.Version (pos (suc (current (w .told)))))
@@ -44,6 +44,8 @@ module _ {K : Kind} where
     pub no-version-left : w .told .active ≡ false → natAbs largestVersion ≤ current (w .told) → answerOf (K .begin) w ≡ answer.numbered (numbered.Refused refusal.noVersionLeft)
     pub committed : w .told .active ≡ true → answerOf (K .commit) w ≡ answer.numbered (numbered.Version (pos (suc (current (w .told)))))
     pub no-run : w .told .active ≡ false → answerOf (K .commit) w ≡ answer.numbered (numbered.Refused refusal.noRun)
+    pub rolled-back : w .told .active ≡ true → answerOf (K .rollBack) w ≡ answer.numbered (numbered.Version (pos (current (w .told))))
+    pub nothing-to-roll-back : w .told .active ≡ false → answerOf (K .rollBack) w ≡ answer.numbered (numbered.Refused refusal.noRun)
 
   -- ---- a read of a key, and a roll-up, at a committed version s answers from database s, and is refused as expired exactly when
   -- that version is gone
@@ -113,11 +115,13 @@ module _ {K : Kind} where
 
   -- ---- the databases: database v + 1 is what the changes of run v + 1 make of database v, one by one; a committed one is never
   -- altered; between runs the running one is the current; and no key stands twice in one. Call by call: a run begins with the
-  -- current database; what goes in of a call makes what it says of the running one; and a commit makes that the next
+  -- current database; what goes in of a call makes what it says of the running one; a commit makes that the next; and a roll back leaves the
+  -- current one
   pub record Databases (w : World K) : Type 0 where
     pub begun : (call : K .Call) → heardOf call w ≡ beganRun → running (next call w .told) ≡ databaseAt (w .told) (current (w .told))
     pub changed : (call : K .Call) (l : List Change) → heardOf call w ≡ wentIn l → running (next call w .told) ≡ madeBy l (running (w .told))
     pub committed : (call : K .Call) → heardOf call w ≡ committedRun → databaseAt (next call w .told) (suc (current (w .told))) ≡ running (w .told)
+    pub rolled-back : (call : K .Call) → heardOf call w ≡ rolledBackRun → running (next call w .told) ≡ databaseAt (w .told) (current (w .told))
     pub made : (v : ℕ) → Committed (w .told) v → Committed (w .told) (suc v) → databaseAt (w .told) (suc v) ≡ madeBy (changesOf (w .told) (suc v)) (databaseAt (w .told) v)
     pub kept : (s : ℕ) → Committed (w .told) s → (h : List (K .Call)) → NoLoad h w → databaseAt (after h w .told) s ≡ databaseAt (w .told) s
     pub settled : w .told .active ≡ false → running (w .told) ≡ databaseAt (w .told) (current (w .told))

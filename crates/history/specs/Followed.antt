@@ -74,11 +74,13 @@ openOf n g (s ∷ l) = cond (isOpen n g s) (s ∷ openOf n g l) (openOf n g l)
 abbrev pub openVersions : ℕ → Followed → List ℕ
 openVersions n g = openOf n g (upTo (suc (current g)))
 
--- ---- what is heard of a call: the changes that went in of it, that it began or committed a run, or that it loaded a block
+-- ---- what is heard of a call: the changes that went in of it, that it began a run, committed it or rolled it back, or that it loaded
+-- a block
 pub data Heard : Type 0 where
   wentIn : List Change → Heard
   beganRun : Heard
   committedRun : Heard
+  rolledBackRun : Heard
   loadedBlock : Heard
 
 abbrev pub nothing : Heard
@@ -100,9 +102,14 @@ runBegun g = record { origin = g .origin; opening = g .opening; runs = g .runs; 
 abbrev pub runCommitted : Followed → Followed
 runCommitted g = record { origin = g .origin; opening = g .opening; runs = g .runs ++ (g .changes ∷ []); changes = []; begun = g .begun; active = false }
 
+-- a roll back ends it, and drops its changes; it has begun all the same
+abbrev pub runRolledBack : Followed → Followed
+runRolledBack g = record { origin = g .origin; opening = g .opening; runs = g .runs; changes = []; begun = g .begun; active = false }
+
 -- a block that is loaded starts another history, which is not followed here
 abbrev pub hear : Heard → Followed → Followed
 hear (wentIn l) g = withChanges l g
 hear beganRun g = runBegun g
 hear committedRun g = runCommitted g
+hear rolledBackRun g = runRolledBack g
 hear loadedBlock g = g

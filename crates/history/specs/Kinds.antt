@@ -9,7 +9,7 @@ use lib.ListN.{getD}
 use Rattle.calls.specs.Terms.{eqZ, mostSlots}
 use Rattle.calls.specs.Calls.{Answer}
 use Rattle.calls.specs.Numbers.{numbers}
-use Rattle.history.specs.Followed.{Followed, freshStart, Heard, wentIn, beganRun, committedRun, loadedBlock, hear}
+use Rattle.history.specs.Followed.{Followed, freshStart, Heard, wentIn, beganRun, committedRun, rolledBackRun, loadedBlock, hear}
 
 pub record Kind : Type 1 where
   -- what is lent, and what is lent fresh for a table of so many slots
@@ -32,6 +32,7 @@ pub record Kind : Type 1 where
   pub rollUp : ℤ → ℤ → Call
   pub put : ℤ → ℤ → ℤ → ℤ → Call
   pub delete : ℤ → ℤ → Call
+  pub rollBack : Call
 
 -- ---- a call is accepted if its refusal number is 0
 abbrev pub accepted : Answer → Bool
@@ -70,6 +71,7 @@ abbrev pub isLoad : Heard → Bool
 isLoad (wentIn l) = false
 isLoad beganRun = false
 isLoad committedRun = false
+isLoad rolledBackRun = false
 isLoad loadedBlock = true
 
 abbrev pub NoLoad : {K : Kind} → List (K .Call) → World K → Type 0

@@ -6,10 +6,10 @@ use mathlib.Core.List.{List, [], _∷_}
 use Prim.Native.Nat.{ℕ}
 use lib.ListN.{take}
 use Rattle.calls.specs.Terms.{freshRecord, freshTable}
-use Rattle.calls.specs.Calls.{Call, openSession, begin, commit, readSlot, readKey, rollUp, put, delete, saveHeader, saveBlock, loadHeader, loadBlock, Answer}
+use Rattle.calls.specs.Calls.{Call, openSession, begin, commit, readSlot, readKey, rollUp, put, delete, rollBack, saveHeader, saveBlock, loadHeader, loadBlock, Answer}
 use Rattle.calls.specs.Perform.{State, perform}
 use Rattle.history.specs.Databases.{Change, gives, takesOut}
-use Rattle.history.specs.Followed.{current, openVersions, Heard, wentIn, nothing, beganRun, committedRun, loadedBlock}
+use Rattle.history.specs.Followed.{current, openVersions, Heard, wentIn, nothing, beganRun, committedRun, rolledBackRun, loadedBlock}
 use Rattle.history.specs.Kinds.{Kind, accepted, Size, freshWorld, after, NoLoad}
 use Rattle.history.specs.Demand.{Demanded}
 
@@ -29,6 +29,7 @@ heardFrom (readKey s key1 key2) a = nothing
 heardFrom (rollUp s key1) a = nothing
 heardFrom (put key1 key2 x y) a = heardChanges a (gives key1 key2 x y ∷ [])
 heardFrom (delete key1 key2) a = heardChanges a (takesOut key1 key2 ∷ [])
+heardFrom rollBack a = ifAccepted a rolledBackRun
 heardFrom saveHeader a = nothing
 heardFrom (saveBlock k) a = nothing
 heardFrom (loadHeader b) a = nothing
@@ -55,6 +56,7 @@ twoVersions = record {
   rollUp = rollUp;
   put = put;
   delete = delete;
+  rollBack = rollBack;
 }
 
 -- what is demanded of it; and where the demand speaks of the open versions during a run, that is current alone

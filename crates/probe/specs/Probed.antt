@@ -11,12 +11,15 @@ use Rattle.calls.specs.Calls.{Call}
 use Rattle.calls.specs.Numbers.{numbers}
 use Rattle.calls.specs.Perform.{State, perform}
 
--- ---- the record: current, the run mark, and two words that stay as they are
+-- ---- the record: current, the run mark, the oldest open version, and a word that stays as it is
 abbrev pub currentWord : List ℤ → ℤ
 currentWord r = getD r 0 (pos 0)
 
 abbrev pub markWord : List ℤ → ℤ
 markWord r = getD r 1 (pos 0)
+
+abbrev pub oldestWord : List ℤ → ℤ
+oldestWord r = getD r 2 (pos 0)
 
 -- the run mark is 0 or 1
 abbrev pub marked : List ℤ → Bool
@@ -29,15 +32,15 @@ outOfRange = pos 0
 unfoldable pub versionOf : List ℤ → VersionRecord
 versionOf r =
     cond (marked r)
-    (record { current = currentWord r; active = eqZ (markWord r) (pos 1) })
-    (record { current = outOfRange; active = false })
+    (record { current = currentWord r; active = eqZ (markWord r) (pos 1); oldest = oldestWord r })
+    (record { current = outOfRange; active = false; oldest = outOfRange })
 
 abbrev pub markOf : Bool → ℤ
 markOf active = cond active (pos 1) (pos 0)
 
--- the record once a call has left this version: its first two words are; a record with another mark stays as it is
+-- the record once a call has left this version: its first three words are; a record with another mark stays as it is
 unfoldable pub recordWith : List ℤ → VersionRecord → List ℤ
-recordWith r v = cond (marked r) (sets r 0 (v .current ∷ markOf (v .active) ∷ [])) r
+recordWith r v = cond (marked r) (sets r 0 (v .current ∷ markOf (v .active) ∷ v .oldest ∷ [])) r
 
 -- ---- out: the refusal's number or 0, then the answer's numbers in order, zeros elsewhere
 abbrev pub outWords : ℕ

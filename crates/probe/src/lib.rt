@@ -1,9 +1,9 @@
 // Every call of the library as a C function, for hosts in C or Rust and for programs that compare, fuzz or measure it;
-// include/probe.h declares them. The record is four words (current, the run mark, and two that stay), the answer's numbers go
-// into eight, a saved block into 512 bytes, and each of these is written whole.
+// include/probe.h declares them. The record is four words (current, the run mark, the oldest open version, and one that stays), the
+// answer's numbers go into eight, a saved block into 512 bytes, and each of these is written whole.
 ghost use mathlib.Core.Path.{_≡_};
 ghost use mathlib.Core.List.{[]};
-ghost use Rattle.calls.specs.Calls.{openSession, begin, commit, readSlot, readKey, rollUp, put, delete, saveHeader, saveBlock, loadHeader, loadBlock};
+ghost use Rattle.calls.specs.Calls.{openSession, begin, commit, readSlot, readKey, rollUp, put, delete, rollBack, saveHeader, saveBlock, loadHeader, loadBlock};
 ghost use Rattle.probe.specs.Probed.{lent, outAfter, tableAfter, recordAfter, blockAfter};
 
 mod lent;
@@ -145,6 +145,23 @@ pub extern "C" fn probe_delete(
     );
 }
 
+// roll back: current
+#[no_mangle]
+pub extern "C" fn probe_roll_back(
+    table: &mut [i64],
+    record_words: &mut [i64; 4],
+    out: &mut [i64; 8],
+)
+    ensures { λ _. ⌜ now (out .exit) ≡ outAfter rollBack (lent (now (table .entry)) (now (record_words .entry)) []) ⌝ }
+    ensures { λ _. ⌜ now (table .exit) ≡ tableAfter rollBack (lent (now (table .entry)) (now (record_words .entry)) []) ⌝ }
+    ensures { λ _. ⌜ now (record_words .exit) ≡ recordAfter rollBack (now (record_words .entry)) (lent (now (table .entry)) (now (record_words .entry)) []) ⌝ }
+{
+    let turned = reader::roll_back_by_value(table, records::version_of(record_words));
+    let answer = turned.answer;
+    records::keep_record(record_words, turned.versions);
+    numbers::put_numbered(out, answer);
+}
+
 // save header: block 0
 #[no_mangle]
 pub extern "C" fn probe_save_header(
@@ -180,7 +197,7 @@ pub extern "C" fn probe_save_block(
     numbers::put_refusal(out, saved.refusal);
 }
 
-// load header: slots, current
+// load header: slots, current, oldest
 #[no_mangle]
 pub extern "C" fn probe_load_header(block: &[u8], out: &mut [i64; 8])
     ensures { λ _. ⌜ now (out .exit) ≡ outAfter (loadHeader (now (block .entry))) (lent [] [] []) ⌝ }

@@ -93,8 +93,12 @@ pub fn put_header(out: &mut [i64; 8], answer: Header)
     ensures { λ _. ⌜ now (out .exit) ≡ padded (ofHeader answer) ⌝ }
 {
     match answer {
-        Header::Holds { slots, current } => {
-            *out = [0, slots as i64, current, 0, 0, 0, 0, 0];
+        Header::Holds {
+            slots,
+            current,
+            oldest,
+        } => {
+            *out = [0, slots as i64, current, oldest, 0, 0, 0, 0];
         }
         Header::Refused(number) => put_refusal(out, number),
     }

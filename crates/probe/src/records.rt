@@ -1,4 +1,4 @@
-// The record as four words: current, the run mark, and two that stay as they are.
+// The record as four words: current, the run mark, the oldest open version, and one that stays as it is.
 ghost use mathlib.Core.Path.{_≡_};
 ghost use Rattle.probe.specs.Probed.{marked, versionOf, markOf, recordWith};
 use reader::VersionRecord;
@@ -6,6 +6,8 @@ use reader::VersionRecord;
 const CURRENT_PLACE: usize = 0;
 
 const MARK_PLACE: usize = 1;
+
+const OLDEST_PLACE: usize = 2;
 
 // The run marks.
 const IDLE: i64 = 0;
@@ -29,11 +31,13 @@ pub fn version_of(record_words: &[i64; 4]) -> VersionRecord
         return VersionRecord {
             current: record_words[CURRENT_PLACE],
             active: record_words[MARK_PLACE] == ACTIVE,
+            oldest: record_words[OLDEST_PLACE],
         };
     }
     VersionRecord {
         current: OUT_OF_RANGE,
         active: false,
+        oldest: OUT_OF_RANGE,
     }
 }
 
@@ -48,9 +52,11 @@ pub fn keep_record(record_words: &mut [i64; 4], versions: VersionRecord)
     ensures { λ _. ⌜ now (record_words .exit) ≡ recordWith (now (record_words .entry)) versions ⌝ }
 {
     let current = versions.current;
+    let oldest = versions.oldest;
     let mark = mark_of(versions.active);
     if is_marked(record_words) {
         record_words[CURRENT_PLACE] = current;
         record_words[MARK_PLACE] = mark;
+        record_words[OLDEST_PLACE] = oldest;
     }
 }

@@ -23,6 +23,8 @@ use Rattle.changes.specs.Put.{PutContract}
 use Rattle.changes.specs.Put as put
 use Rattle.changes.specs.Delete.{DeleteContract}
 use Rattle.changes.specs.Delete as delete
+use Rattle.changes_roll_back.specs.RollBack.{RollBackContract}
+use Rattle.changes_roll_back.specs.RollBackLaws as rollBack
 use Rattle.blocks_saves.specs.declared.Saved.{Saved}
 use Rattle.blocks.specs.declared.Header.{Header}
 use Rattle.blocks.specs.declared.Loaded.{Loaded}
@@ -50,6 +52,10 @@ pub record Tight : Type 0 where
       → PutContract t v key1 key2 total1 total2 r u → PutContract t v key1 key2 total1 total2 r′ u′ → (r ≡ r′) × (u ≡ u′)
   pub of-delete : {t u u′ : List ℤ} {v : VersionRecord} {key1 key2 : ℤ} {r r′ : Placed}
       → DeleteContract t v key1 key2 r u → DeleteContract t v key1 key2 r′ u′ → (r ≡ r′) × (u ≡ u′)
+  -- a roll back leaves both
+  pub of-roll-back : {t u u′ : List ℤ} {v v′ v″ : VersionRecord} {r r′ : Numbered}
+      → RollBackContract t v (leaving r v′) u → RollBackContract t v (leaving r′ v″) u′ → (r ≡ r′) × (v′ ≡ v″) × (u ≡ u′)
+  pub of-roll-back-by-value : {t u u′ : List ℤ} {v : VersionRecord} {r r′ : Turned} → RollBackContract t v r u → RollBackContract t v r′ u′ → (r ≡ r′) × (u ≡ u′)
   -- a save answers its refusal, and hands out the block
   pub of-save-header : {t : List ℤ} {v : VersionRecord} {r r′ : Saved}
       → SaveHeaderContract t v r → SaveHeaderContract t v r′ → (r .refusal ≡ r′ .refusal) × (r .block ≡ r′ .block)
@@ -71,6 +77,8 @@ tight = record {
   of-roll-up = rollUp.one-outcome;
   of-put = put.one-outcome;
   of-delete = delete.one-outcome;
+  of-roll-back = λ a b. (ap (λ x. x .answer) (rollBack.one-outcome a b .0), ap (λ x. x .versions) (rollBack.one-outcome a b .0), rollBack.one-outcome a b .1);
+  of-roll-back-by-value = rollBack.one-outcome;
   of-save-header = saveHeader.one-outcome;
   of-save-block = saveBlock.one-outcome;
   of-load-header = loadHeader.one-outcome;

@@ -3,7 +3,7 @@
 
 // The version record, with its largest version `VersionRecord::LARGEST` and the fresh record `VersionRecord::fresh`.
 pub use versions::VersionRecord;
-// What open, begin and commit answer: the number of a version, or a refusal.
+// What open, begin, commit and roll back answer: the number of a version, or a refusal.
 pub use versions_runs::Numbered;
 // What a slot or a key read answers: a row, no row, or a refusal.
 pub use reads::Seen;
@@ -13,7 +13,7 @@ pub use reads_roll_up::Rolled;
 pub use changes_rows::Placed;
 // What a save hands out: 0 or the refusal, and the block.
 pub use blocks_saves::Saved;
-// What load header answers: slots and current, or a refusal.
+// What load header answers: slots, current and the oldest open version, or a refusal.
 pub use blocks::Header;
 // What load block answers: that it is done, or a refusal.
 pub use blocks::Loaded;
@@ -24,7 +24,10 @@ pub use versions_runs::open;
 pub use versions_runs::begin;
 // Commit it, on a lent record: the new current version.
 pub use versions_runs::commit;
-// Begin and commit with the record handed over and back by value, and what they leave: the answer and the record.
+// Roll it back, on a lent record: every open session reads what it read before the run, and current is answered.
+pub use changes_roll_back::roll_back;
+// Begin, commit and roll back with the record handed over and back by value, and what they leave: the answer and the record.
+pub use changes_roll_back::roll_back_by_value;
 pub use versions_runs::Turned;
 pub use versions_runs::begin_by_value;
 pub use versions_runs::commit_by_value;
@@ -38,7 +41,7 @@ pub use reads_roll_up::roll_up;
 pub use changes::put;
 // Delete a row, in a run.
 pub use changes::delete;
-// Save block 0: slots and current.
+// Save block 0: slots, current and the oldest open version.
 pub use blocks::save_header;
 // Save block k from 1: seven slots.
 pub use blocks::save_block;

@@ -44,15 +44,15 @@ pub record Traceless (t : List ℤ) (v : VersionRecord) (s : ℤ) : Type 0 where
   pub untold : (k : ℕ) → rowExpired s (slotAt t k) ≡ false
 
 abbrev pub inRun4 : VersionRecord
-inRun4 = record { current = pos 3; active = true }
+inRun4 = record { current = pos 3; active = true; oldest = pos 3 }
 
 pub traceless : Traceless (freshTable 1) inRun4 (pos 2)
 unfolding rowExpired
 traceless =
     let shape = fresh-shape 1 (omega arith) (omega arith) in
-    let sound = known {v = inRun4} (record { low = refl; high = refl; in-run = λ a. refl }) in
+    let sound = known {v = inRun4} (record { low = refl; high = refl; in-run = λ a. refl; first = refl; near = refl; newest = λ a. refl }) in
     let young = born inRun4 3 2 refl (omega arith) (omega arith) in
     record {
-      refused = λ k. slot-expired (freshTable 1) inRun4 (pos 2) shape sound young k (expires inRun4 3 2 refl (omega arith));
+      refused = λ k. slot-expired (freshTable 1) inRun4 (pos 2) shape sound young k (expires inRun4 3 2 refl);
       untold = λ k. rw (fresh-slot 1 k) refl;
     }

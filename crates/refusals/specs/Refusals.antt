@@ -6,7 +6,8 @@ use Prim.Native.Nat.{ℕ}
 abbrev pub badTable : ℕ
 badTable = 1
 
--- the record's current version is not in 1 to 1,000,000,000, or is 1,000,000,000 with a run active
+-- the record's current version is not in 1 to 1,000,000,000, or is 1,000,000,000 with a run active; or its oldest open version is below
+-- 1, is neither current nor current − 1, or is not current during a run
 abbrev pub badRecord : ℕ
 badRecord = 2
 
@@ -14,7 +15,7 @@ badRecord = 2
 abbrev pub noSuchVersion : ℕ
 noSuchVersion = 3
 
--- the session is below current − 1, or is current − 1 while a run is active
+-- the session is below the oldest open version
 abbrev pub expired : ℕ
 expired = 4
 

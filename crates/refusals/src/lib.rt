@@ -3,13 +3,14 @@
 // The table's length is 0, not a multiple of 8, or above 8,192 words.
 pub const BAD_TABLE: u32 = 1;
 
-// The record's current version is not in 1 to 1,000,000,000, or is 1,000,000,000 with a run active.
+// The record's current version is not in 1 to 1,000,000,000, or is 1,000,000,000 with a run active; or its oldest open version is below
+// 1, is neither current nor current − 1, or is not current during a run.
 pub const BAD_RECORD: u32 = 2;
 
 // The session is below 1 or above current.
 pub const NO_SUCH_VERSION: u32 = 3;
 
-// The session is below current − 1, or is current − 1 while a run is active.
+// The session is below the oldest open version.
 pub const EXPIRED: u32 = 4;
 
 // The slot number is not below the slots, or the block number is not one of the blocks.

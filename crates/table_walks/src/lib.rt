@@ -1,5 +1,5 @@
-// What a pass over the table asks of a slot where it stands, word by word: whether it is broken. All here are leaves for our other
-// crates: they require a table that passes test 1 and a record that passes test 2.
+// What a pass over the table asks of a slot where it stands, word by word: whether it is broken; and the pass that asks no more than
+// that. All here are leaves for our other crates: they require a table that passes test 1 and a record that passes test 2.
 ghost use mathlib.Core.Path.{_≡_};
 ghost use mathlib.Core.Bool.{true, false};
 ghost use Prim.Native.Nat.{_<_};
@@ -7,7 +7,7 @@ ghost use Rattle.laws.specs.Order.{fromTo};
 ghost use Rattle.versions.specs.Record.{badRecord};
 ghost use Rattle.table.specs.Slots.{badTable, slots, slotAt};
 ghost use Rattle.table_forms.specs.Operations.{insertOperation, deleteOperation};
-ghost use Rattle.table_forms.specs.Formed.{usedWell, broken};
+ghost use Rattle.table_forms.specs.Formed.{usedWell, broken, anyBroken};
 use table::CURRENT1;
 use table::CURRENT2;
 use table::OLD1;
@@ -55,4 +55,21 @@ pub fn is_broken_at(table: &[i64], k: usize, versions: VersionRecord) -> bool
         return !used_well_at(table, k, versions);
     }
     !table_forms::all_zeros(table::slot_at(table, k))
+}
+
+// Refusal 6, where the call rests on any slot: the pass stops at the first that is broken.
+pub fn any_broken(table: &[i64], versions: VersionRecord) -> bool
+    requires { ⌜ badTable (now table) ≡ false ⌝ }
+    requires { ⌜ badRecord versions ≡ false ⌝ }
+    ensures { λ r. ⌜ r ≡ anyBroken (now (table .entry)) versions ⌝ }
+{
+    let slots = table::slots_of(table);
+    let mut k: usize = 0;
+    while k < slots {
+        if is_broken_at(table, k, versions) {
+            return true;
+        }
+        k += 1;
+    }
+    false
 }

@@ -1,17 +1,18 @@
 -- How the contracts of begin and commit are shown: a refusal leaves the record as it was; what is not refused is done. What
 -- was tested where a call is accepted, and what is left to test of a sound record. Assumes nothing.
-use mathlib.Core.Path.{_≡_, refl, _∙_, sym}
-use mathlib.Core.Bool.{true, false}
+use mathlib.Core.Path.{_≡_, refl, ap, _∙_, sym}
+use mathlib.Core.Bool.{true, false, _||_, or-true}
 use mathlib.Core.List.{[], _∷_}
 use Prim.Native.Nat.{ℕ, suc, _+_}
+use native.Mathlib.Numerals.{add-one}
 use native.Mathlib.Omega.{arith}
-use lib.IntN.{ℤ, pos, negsuc, _+ℤ_}
+use lib.IntN.{ℤ, pos, negsuc, _+ℤ_, _-ℤ_}
 use lib.Signed.{leZ}
 use borrow.Author.Tests.{leb-true, le-leb, eqb-false}
 use Rattle.laws.specs.TestLaws.{clash, not-no}
 use Rattle.laws.specs.FirstLaws.{unless-refused, unless-done, none, skip, done}
 use Rattle.laws.specs.First.{first}
-use Rattle.laws.specs.OrderLaws.{next-low}
+use Rattle.laws.specs.OrderLaws.{eqZ-refl, next-low, previous}
 use Rattle.laws.specs.Order.{eqZ}
 use Rattle.versions.specs.declared.VersionRecord.{VersionRecord}
 use Rattle.versions_runs.specs.declared.Numbered.{Numbered}
@@ -103,11 +104,23 @@ below-largest : (c : ℤ) → leZ (pos 1) c ≡ true → leZ c largestVersion �
 below-largest (pos n) l h ne = le-leb (n + 1) 1000000000 (omega (arith, leb-true n 1000000000 h, eqb-false n 1000000000 ne))
 below-largest (negsuc n) l h ne = clash l refl
 
+-- the oldest that a run leaves is the number before its own
+kept-near : (c o : ℤ) → leZ (pos 1) c ≡ true → o ≡ c → (eqZ o (c +ℤ pos 1) || eqZ o ((c +ℤ pos 1) -ℤ pos 1)) ≡ true
+kept-near (pos c) o l e = rw (e, add-one c, previous c, eqZ-refl (pos c)) (or-true (eqZ (pos c) (pos (suc c))))
+kept-near (negsuc c) o l e = clash l refl
+
 pub begun-sound : (v : VersionRecord) → beginRefusal v ≡ 0 → badRecord (begunFrom v) ≡ false
 begun-sound v h =
     let can = can-begin v h in
     let s = sound {v = v} (can .known) in
-    known (record { low = s .low; high = s .high; in-run = λ a. can .room })
+    known (record {
+      low = s .low;
+      high = s .high;
+      in-run = λ a. can .room;
+      first = s .low;
+      near = ap (λ b. b || eqZ (v .current) (v .current -ℤ pos 1)) (eqZ-refl (v .current));
+      newest = λ a. refl;
+    })
 
 pub committed-sound : (v : VersionRecord) → commitRefusal v ≡ 0 → badRecord (committedFrom v) ≡ false
 committed-sound v h =
@@ -117,6 +130,9 @@ committed-sound v h =
       low = next-low (v .current) (s .low);
       high = below-largest (v .current) (s .low) (s .high) (s .in-run (can .active));
       in-run = λ a. clash a refl;
+      first = s .first;
+      near = kept-near (v .current) (v .oldest) (s .low) (s .newest (can .active));
+      newest = λ a. clash a refl;
     })
 
 -- ---- each contract allows one outcome

@@ -46,9 +46,9 @@ beginTests v =
 unfoldable pub beginRefusal : VersionRecord → ℕ
 beginRefusal v = first (beginTests v)
 
--- begin marks the record active
+-- begin marks the record active and makes current the oldest open version
 abbrev pub begunFrom : VersionRecord → VersionRecord
-begunFrom v = record { current = v .current; active = true }
+begunFrom v = record { current = v .current; active = true; oldest = v .current }
 
 -- and answers current + 1
 unfoldable pub beginAnswer : VersionRecord → Numbered
@@ -70,7 +70,7 @@ commitRefusal v = first (commitTests v)
 
 -- commit raises current by one, ends the run
 abbrev pub committedFrom : VersionRecord → VersionRecord
-committedFrom v = record { current = runNumber v; active = false }
+committedFrom v = record { current = runNumber v; active = false; oldest = v .oldest }
 
 -- and answers the new current
 unfoldable pub commitAnswer : VersionRecord → Numbered

@@ -3,13 +3,13 @@ ghost use mathlib.Core.Path.{_≡_};
 ghost use Rattle.versions_runs.specs.Runs.{OpenContract, keptAs, leaving, BeginContract, CommitContract};
 use versions::VersionRecord;
 
-// What open, begin and commit answer: the number of a version, or a refusal.
+// What open, begin, commit and roll back answer: the number of a version, or a refusal.
 pub enum Numbered {
     Version(i64),
     Refused(u32),
 }
 
-// What begin and commit leave: their answer, and the record.
+// What begin, commit and roll back leave: their answer, and the record.
 pub struct Turned {
     pub answer: Numbered,
     pub versions: VersionRecord,
@@ -55,6 +55,7 @@ pub fn begin_by_value(versions: VersionRecord) -> Turned
         versions: VersionRecord {
             current: current,
             active: true,
+            oldest: current,
         },
     }
 }
@@ -73,11 +74,13 @@ pub fn commit_by_value(versions: VersionRecord) -> Turned
         return kept(versions, refusals::NO_RUN);
     }
     let next = versions::run_number(versions);
+    let oldest = versions.oldest;
     Turned {
         answer: Numbered::Version(next),
         versions: VersionRecord {
             current: next,
             active: false,
+            oldest: oldest,
         },
     }
 }

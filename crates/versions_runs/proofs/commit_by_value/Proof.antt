@@ -1,9 +1,11 @@
 -- `versions_runs::commit_by_value`: the tests follow the definition's list, past refusal 2 (`past2`) and to the one that holds; past
 -- 8 the answer and the new current are the run's number, current + 1. Assumes nothing.
-use mathlib.Core.Path.{_≡_, sym, ap, _∙_}
+use mathlib.Core.Path.{_≡_, sym, ap, ap₂, _∙_}
 use mathlib.Core.Bool.{false}
 use native.Mathlib.Omega.{arith}
 use lib.IntN.{ℤ}
+use mir.Syntax.{w64}
+use mir.Val.{SFits}
 use borrow.Author.Needs.{needs}
 use Rattle.laws.specs.FirstLaws.{hit, skip, done}
 use Rattle.laws.specs.Bits.{plain}
@@ -32,17 +34,19 @@ is8 c =
     let sound = idle .before .before in
     rw (c .kept2 .ensures) (commit-kept (skip _ _ (past2 sound) ∙ hit _ (idle .if2 .taken)) (omega arith))
 
--- the record between runs, at a current version
-at-rest : ℤ → VersionRecord
-at-rest n = record { current = n; active = false }
+-- the record between runs, at a current version and an oldest one
+at-rest : ℤ → ℤ → VersionRecord
+at-rest n o = record { current = n; active = false; oldest = o }
 
 commits : tie.Need-returns-3
 unfolding commitRefusal at-rest
 commits c =
-    let active = c .before in
+    let asked = c .before in
+    let active = asked .before in
     let sound = active .before .before in
-    let next = plain _ (record { sfits = c .run-number .ok }) ∙ c .run-number .ensures in
-    commit-done (skip _ _ (past2 sound) ∙ skip _ _ (active .if2 .left) ∙ done) (ap Version next) (ap at-rest next)
+    let next = plain _ (record { sfits = asked .run-number .ok }) ∙ asked .run-number .ensures in
+    let oldest : SFits w64 (sound .before .before .args .versions .oldest) = search needs in
+    commit-done (skip _ _ (past2 sound) ∙ skip _ _ (active .if2 .left) ∙ done) (ap Version next) (ap₂ at-rest next (plain _ oldest))
 
 pub commit-by-value-spec : {M : Type 1} → statement M
 commit-by-value-spec =

@@ -1,0 +1,2 @@
+pub mod RollBack
+pub mod RollBackLaws
