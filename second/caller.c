@@ -34,6 +34,7 @@ enum call {
     CALL_ROLL_UP,
     CALL_PUT,
     CALL_DELETE,
+    CALL_ROLL_BACK,
     CALL_SAVE_HEADER,
     CALL_SAVE_BLOCK,
     CALL_LOAD_HEADER,
@@ -215,6 +216,9 @@ static void make_call(const struct request *request, const struct lent *lent)
         break;
     case CALL_DELETE:
         probe_delete(table, words, record, number[0], number[1], out);
+        break;
+    case CALL_ROLL_BACK:
+        probe_roll_back(table, words, record, out);
         break;
     case CALL_SAVE_HEADER:
         probe_save_header(table, words, record, lent->block, out);

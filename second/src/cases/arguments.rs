@@ -55,6 +55,7 @@ impl Arguments {
             Kind::Delete => Call::Delete {
                 key: self.key(random),
             },
+            Kind::RollBack => Call::RollBack,
             Kind::SaveHeader => Call::SaveHeader,
             Kind::SaveBlock => Call::SaveBlock {
                 number: self.number(random, lent),

@@ -4,9 +4,9 @@ use crate::cases::edges;
 use crate::cases::random::Random;
 use crate::model::block::{
     self, BLOCK_BYTES, BLOCK_WORDS, Block, CHECK, FIRST_FILLER, FIRST_SLOT, HEADER_CURRENT,
-    HEADER_FIRST_FILLER, HEADER_SLOTS, NUMBER, SLOT_HALVES,
+    HEADER_FIRST_FILLER, HEADER_OLDEST, HEADER_SLOTS, Header, NO_OLDEST, NUMBER, SLOT_HALVES,
 };
-use crate::model::record::LARGEST_VERSION;
+use crate::model::record::{FIRST_VERSION, LARGEST_VERSION};
 use crate::model::slot::Slot;
 use crate::model::table::MOST_SLOTS;
 
@@ -61,18 +61,55 @@ const HEADER_VERSIONS: [u32; 9] = [
     u32::MAX,
 ];
 
+/// Words of a header for the oldest open version, wherever the current one is.
+const HEADER_OLDESTS: [u32; 6] = [
+    FIRST_VERSION as u32,
+    2,
+    LARGEST_VERSION as u32,
+    LARGEST_VERSION as u32 + 1,
+    1 << 31,
+    u32::MAX,
+];
+
+/// How many headers of a hundred are at one of the first versions.
+const FIRST_VERSIONS_PERCENT: usize = 20;
+const LAST_OF_THE_FIRST: i64 = 4;
+
+/// What is added to the current version where the oldest one is just not allowed.
+const BESIDE_THE_ALLOWED: [u32; 2] = [1, 0_u32.wrapping_sub(2)];
+
 /// A block 0 as bytes, sound or damaged.
 pub fn header(random: &mut Random) -> Vec<u8> {
-    let slots = 1 + random.below(MOST_SLOTS);
-    let current = random.between(1, LARGEST_VERSION);
-    let mut header = Block::header(slots, current);
+    let most = if random.percent(FIRST_VERSIONS_PERCENT) {
+        LAST_OF_THE_FIRST
+    } else {
+        LARGEST_VERSION
+    };
+    let mut header = Block::of_header(Header {
+        slots: 1 + random.below(MOST_SLOTS),
+        current: random.between(FIRST_VERSION, most),
+        oldest: NO_OLDEST,
+    });
     match random.below(4) {
         0 => header.words[HEADER_SLOTS] = random.pick(&HEADER_SLOT_COUNTS),
         1 => header.words[HEADER_CURRENT] = random.pick(&HEADER_VERSIONS),
         _ => {}
     }
+    header.words[HEADER_OLDEST] = header_oldest(random, header.words[HEADER_CURRENT]);
     header.mend();
     damaged(random, header, HEADER_FIRST_FILLER, HEADER_FIRST_FILLER)
+}
+
+/// The word of a header for the oldest open version. Most are allowed, if the current
+/// version is.
+fn header_oldest(random: &mut Random, current: u32) -> u32 {
+    match random.below(8) {
+        0 | 1 => NO_OLDEST as u32,
+        2 | 3 => current,
+        4 | 5 => current.wrapping_sub(1),
+        6 => current.wrapping_add(random.pick(&BESIDE_THE_ALLOWED)),
+        _ => random.pick(&HEADER_OLDESTS),
+    }
 }
 
 /// A block of the slots as bytes, sound or damaged, for a table of so many slots.

@@ -5,13 +5,15 @@ use crate::cases::case::Case;
 use crate::model::block::{BLOCK_BYTES, HALF_BYTES};
 use crate::model::call::{Call, Lent, OUT_WORDS, out_words};
 use crate::model::outcome::make_call;
+use crate::model::record::RECORD_WORDS;
 use crate::model::slot::{Key, Totals};
 
-/// What a call of a figure is to give: the first numbers, zeros after them, or
-/// the check of the block that it saves.
+/// What a call of a figure is to give: the first numbers, zeros after them, the check
+/// of the block that it saves, or the record that it leaves.
 pub enum Gives {
     Numbers(Vec<i64>),
     Check(u32),
+    Record([i64; RECORD_WORDS]),
 }
 
 /// A case whose outcome the documents say.
@@ -36,9 +38,11 @@ pub fn held_to(figure: Figure) -> Result<Case, String> {
             Gives::Check(check) => {
                 call.left_block(&outcome)[BLOCK_BYTES - HALF_BYTES..] == check.to_le_bytes()
             }
+            Gives::Record(words) => lent.record.words == *words,
         };
         if !right {
-            return Err(format!("{call}: {outcome:?}"));
+            let record = lent.record.words;
+            return Err(format!("{call}: {outcome:?}, record {record:?}"));
         }
     }
     if figure.end.is_some_and(|end| end != lent.table.words) {

@@ -1,12 +1,15 @@
-//! Document 01's figures, what request 1 says of put, cell by cell, and what request
-//! 3 says of totals not reported, by which the model itself is held to the documents.
+//! Document 01's figures, what request 1 says of put, cell by cell, what request 3 says
+//! of totals not reported and request 4 of the oldest open version and of a run that is
+//! rolled back, by which the model itself is held to the documents.
 
 use crate::cases::case::Case;
 use crate::cases::figure::{self, Figure, Gives, begin, commit, delete, held_to, read};
 use crate::cases::not_reported;
-use crate::model::block::Block;
+use crate::cases::oldest;
+use crate::cases::rolled_back;
+use crate::model::block::{Block, Header};
 use crate::model::call::{Call, Lent};
-use crate::model::record::VersionRecord;
+use crate::model::record::{A_RUN, NO_RUN, VersionRecord};
 use crate::model::slot::{LARGEST_TOTAL, NOT_REPORTED, SLOT_WORDS};
 use crate::model::steps;
 use crate::model::table::Table;
@@ -130,7 +133,12 @@ pub fn cases() -> Result<Vec<Case>, String> {
         checks(-1, 19_971_017),
         checks(NOT_REPORTED, not_reported::CHECK),
     ];
-    let all = figures.into_iter().chain(not_reported::figures());
+    let of_requests = [
+        not_reported::figures(),
+        oldest::figures(),
+        rolled_back::figures(),
+    ];
+    let all = figures.into_iter().chain(of_requests.into_iter().flatten());
     all.map(held_to).collect()
 }
 
@@ -139,12 +147,12 @@ fn put(one: i64, two: i64, total: i64, gives: &[i64]) -> (Call, Gives) {
     figure::put(one, two, [total, 0], gives)
 }
 
-fn figure_4() -> Lent {
+pub fn figure_4() -> Lent {
     Lent {
         table: Table {
             words: FIGURE_4.concat(),
         },
-        record: VersionRecord::new(4, 0, [0, 0]),
+        record: VersionRecord::new(4, NO_RUN, 3, 0),
     }
 }
 
@@ -242,7 +250,7 @@ fn in_run_3(slots: &[[i64; SLOT_WORDS]]) -> Lent {
         table: Table {
             words: slots.concat(),
         },
-        record: VersionRecord::new(2, 1, [0, 0]),
+        record: VersionRecord::new(2, A_RUN, 2, 0),
     }
 }
 
@@ -283,10 +291,15 @@ fn tests_of_put() -> Figure {
 /// The checks of the blocks of eight slots, one of them with this total two.
 fn checks(total_two: i64, check: u32) -> Figure {
     let save = Call::SaveBlock { number: 1 };
+    let header = Header {
+        slots: 8,
+        current: 2,
+        oldest: 1,
+    };
     Figure {
         start: Lent::fresh(8),
         calls: vec![
-            (Call::SaveHeader, Gives::Check(9)),
+            (Call::SaveHeader, Gives::Check(10)),
             (save.clone(), Gives::Check(1)),
             begin(2),
             (Call::SaveHeader, Gives::Numbers(vec![7])),
@@ -296,9 +309,9 @@ fn checks(total_two: i64, check: u32) -> Figure {
             (save, Gives::Check(check)),
             (
                 Call::LoadHeader {
-                    block: Block::header(8, 2).bytes(),
+                    block: Block::of_header(header).bytes(),
                 },
-                Gives::Numbers(vec![0, 8, 2]),
+                Gives::Numbers(vec![0, 8, 2, 1]),
             ),
         ],
         end: None,

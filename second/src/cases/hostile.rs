@@ -7,7 +7,7 @@ use crate::cases::random::Random;
 use crate::cases::slots;
 use crate::model::call::{KINDS, Lent};
 use crate::model::outcome::make_call;
-use crate::model::record::{LARGEST_VERSION, VersionRecord};
+use crate::model::record::{A_RUN, FIRST_VERSION, LARGEST_VERSION, NO_RUN, VersionRecord};
 use crate::model::slot::{Key, SLOT_WORDS};
 use crate::model::table::{MOST_WORDS, Table};
 
@@ -50,6 +50,14 @@ const VERSIONS: [i64; 11] = [
     i64::MAX,
 ];
 
+/// How many records of a hundred have an oldest open version from anywhere, and how
+/// many of the others with no run have the version before.
+const ODD_OLDEST_PERCENT: usize = 15;
+const VERSION_BEFORE_PERCENT: usize = 50;
+
+/// The least words that an oldest open version may be taken for.
+const LEAST_OLDEST: [i64; 4] = [FIRST_VERSION, 0, -1, i64::MIN];
+
 /// A case from hostile words.
 pub fn case(random: &mut Random) -> Case {
     let record = record(random);
@@ -86,14 +94,24 @@ fn record(random: &mut Random) -> VersionRecord {
     };
     let run_mark = match random.below(12) {
         0 => edges::word(random),
-        1..=5 => 0,
-        _ => 1,
+        1..=5 => NO_RUN,
+        _ => A_RUN,
     };
-    VersionRecord::new(
-        current,
-        run_mark,
-        [edges::word(random), edges::word(random)],
-    )
+    let oldest = oldest(random, current, run_mark);
+    VersionRecord::new(current, run_mark, oldest, edges::word(random))
+}
+
+/// An oldest open version. Most are lawful, if the other words are.
+fn oldest(random: &mut Random, current: i64, run_mark: i64) -> i64 {
+    if random.percent(ODD_OLDEST_PERCENT) {
+        return match random.below(4) {
+            0 => random.pick(&LEAST_OLDEST),
+            _ => edges::word_near(random, current),
+        };
+    }
+    let is_before = run_mark == NO_RUN && random.percent(VERSION_BEFORE_PERCENT);
+    let oldest = current.wrapping_sub(i64::from(is_before));
+    oldest.max(FIRST_VERSION)
 }
 
 fn table_length(random: &mut Random, long: bool) -> usize {

@@ -8,7 +8,7 @@ use crate::cases::random::Random;
 use crate::model::block;
 use crate::model::call::{Answer, Call, KINDS, Kind, Lent};
 use crate::model::outcome::make_call;
-use crate::model::record::VersionRecord;
+use crate::model::record::{NO_RUN, VersionRecord};
 use crate::model::table::{MOST_SLOTS, Table};
 
 const ODD_ARGUMENTS: usize = 3;
@@ -32,6 +32,7 @@ const MOST_KEYS_TOO_MANY: usize = 4;
 const MAY_LOAD_PERCENT: usize = 30;
 const GO_ON_WITH_A_SCAN_PERCENT: usize = 40;
 const SCAN_THE_VERSION_BEFORE_PERCENT: usize = 30;
+const ROLL_BACK_BEFORE_A_SAVE_PERCENT: usize = 30;
 
 #[derive(Clone, Copy)]
 enum Next {
@@ -44,13 +45,14 @@ enum Next {
     AnyKind,
 }
 
-const IN_A_RUN: [(usize, Next); 9] = [
+const IN_A_RUN: [(usize, Next); 10] = [
     (40, Next::Call(Kind::Put)),
     (17, Next::Call(Kind::Delete)),
     (8, Next::Call(Kind::ReadKey)),
     (4, Next::Call(Kind::ReadSlot)),
     (6, Next::Call(Kind::RollUp)),
-    (7, Next::Call(Kind::Commit)),
+    (6, Next::Call(Kind::Commit)),
+    (3, Next::Call(Kind::RollBack)),
     (1, Next::Call(Kind::Open)),
     (4, Next::Scan),
     (3, Next::AnyKind),
@@ -75,7 +77,7 @@ struct History {
     calls: Vec<Call>,
     /// the reads that are left of a session's scan
     scan: Vec<Call>,
-    /// the loads that bring back what was saved last
+    /// the loads that bring back what was saved last, the header's first
     saved: Vec<Call>,
     may_load: bool,
 }
@@ -85,7 +87,7 @@ pub fn case(random: &mut Random) -> Case {
     let slots = slot_count(random);
     let start = Lent {
         table: Table::fresh(slots),
-        record: VersionRecord::fresh([edges::word(random), edges::word(random)]),
+        record: VersionRecord::fresh(edges::word(random)),
     };
     let most_calls = if slots > MOST_MIDDLE_SLOTS {
         MOST_CALLS_ON_LARGE
@@ -100,20 +102,24 @@ pub fn case(random: &mut Random) -> Case {
     }
 }
 
-/// A case that loads the blocks of a table into another of that size, at that
-/// version, and goes on from there. The model must give the same words.
+/// A case that loads the blocks of a table into another of that size, with the record
+/// that the header brings, and goes on from there. The model must give the same words.
 pub fn reloaded_case(random: &mut Random) -> Case {
     let slots = 1 + random.below(MOST_SMALL_SLOTS);
     let mut source = History::new(random, &Lent::fresh(slots));
     source.grow(random, MOST_CALLS);
-    source.push(Call::Commit);
+    source.push(if random.percent(ROLL_BACK_BEFORE_A_SAVE_PERCENT) {
+        Call::RollBack
+    } else {
+        Call::Commit
+    });
     source.save();
     let words = source.lent.table.words.iter();
     let start = Lent {
         table: Table {
             words: words.map(|_| edges::word(random)).collect(),
         },
-        record: source.lent.record,
+        record: record_of(&source),
     };
     let mut history = History::new(random, &start);
     history.arguments.keys = source.arguments.keys;
@@ -123,6 +129,17 @@ pub fn reloaded_case(random: &mut Random) -> Case {
     Case {
         start,
         calls: history.calls,
+    }
+}
+
+/// The record that the saved header of a history brings.
+fn record_of(source: &History) -> VersionRecord {
+    match make_call(&source.saved[0], &mut source.lent.clone()) {
+        Ok(Answer::Header(header)) => {
+            let [.., rest] = source.lent.record.words;
+            VersionRecord::new(header.current, NO_RUN, header.oldest, rest)
+        }
+        other => unreachable!("the header was just saved: {other:?}"),
     }
 }
 
@@ -214,17 +231,20 @@ impl History {
 
     /// Saves the header and every block, and keeps the loads for later.
     fn save(&mut self) {
-        self.push(Call::SaveHeader);
         self.saved.clear();
+        self.push_save(Call::SaveHeader, |block| Call::LoadHeader { block });
         let last = block::last_number(self.lent.table.slots().unwrap_or(0)) as u64;
         for number in 1..=last {
-            let save = Call::SaveBlock { number };
-            let saved = make_call(&save, &mut self.lent);
-            if let Ok(Answer::Saved(block)) = saved {
-                let block = block.bytes();
-                self.saved.push(Call::LoadBlock { number, block });
-            }
-            self.calls.push(save);
+            let load = |block| Call::LoadBlock { number, block };
+            self.push_save(Call::SaveBlock { number }, load);
         }
+    }
+
+    /// Makes the save, and keeps the load of what it saved.
+    fn push_save(&mut self, save: Call, load: impl FnOnce(Vec<u8>) -> Call) {
+        if let Ok(Answer::Saved(block)) = make_call(&save, &mut self.lent) {
+            self.saved.push(load(block.bytes()));
+        }
+        self.calls.push(save);
     }
 }

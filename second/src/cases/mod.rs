@@ -11,6 +11,8 @@ pub mod figures;
 pub mod hostile;
 pub mod lawful;
 pub mod not_reported;
+pub mod oldest;
 pub mod random;
+pub mod rolled_back;
 pub mod slots;
 pub mod steps_input;

@@ -5,7 +5,7 @@ use crate::cases::ends::{BothTotals, full_region};
 use crate::cases::figure::{Figure, Gives, begin, commit, delete, put, read, read_key, roll_up};
 use crate::model::block::Block;
 use crate::model::call::{Call, Lent};
-use crate::model::record::VersionRecord;
+use crate::model::record::{NO_RUN, VersionRecord};
 use crate::model::slot::{LARGEST_TOTAL, NOT_REPORTED, SLOT_WORDS, Slot};
 use crate::model::table::Table;
 
@@ -202,7 +202,7 @@ fn at_current_3(slots: &[[i64; SLOT_WORDS]]) -> Lent {
         table: Table {
             words: slots.concat(),
         },
-        record: VersionRecord::new(3, 0, [0, 0]),
+        record: VersionRecord::new(3, NO_RUN, 2, 0),
     }
 }
 
@@ -302,7 +302,7 @@ fn loaded_block() -> Figure {
     Figure {
         start: Lent {
             table: Table::fresh(1),
-            record: VersionRecord::new(2, 0, [0, 0]),
+            record: VersionRecord::new(2, NO_RUN, 1, 0),
         },
         calls: vec![
             (load_of(&[SAVED_SLOT]), Gives::Numbers(vec![0])),

@@ -5,6 +5,7 @@ use crate::cases::case::Case;
 use crate::comparison::caller::{self, Caller, Left};
 use crate::comparison::coverage::Coverage;
 use crate::comparison::databases::{Followed, Tally};
+use crate::comparison::rare::Past;
 use crate::model::call::{Call, Lent, out_words};
 use crate::model::outcome::make_call;
 use std::io;
@@ -54,11 +55,13 @@ impl Batch {
 
     pub fn add(&mut self, case: Case) {
         let mut lent = case.start.clone();
+        let mut past = Past::default();
         for call in &case.calls {
             caller::put_request(&mut self.requests, call, &lent);
             let before = lent.clone();
             let outcome = make_call(call, &mut lent);
-            self.coverage.count(call, &before, &outcome);
+            self.coverage.count(call, &before, &outcome, &past);
+            past.add(call, &before, &outcome);
             let block = call.left_block(&outcome);
             caller::put_answer(&mut self.expected, &out_words(&outcome), &lent, &block);
             self.ends.push(self.expected.len());

@@ -48,6 +48,8 @@ impl Found {
             histories,
             reads,
             expired,
+            rolled_back,
+            stay_expired,
             left_out,
             scans,
             puts,
@@ -56,9 +58,10 @@ impl Found {
         } = self.tally;
         println!(
             "demand 3 followed over {histories} histories: {reads} reads, {expired} of them \
-             expired; {left_out} roll-ups that leave out a total not reported; {scans} sessions \
-             that read every slot; {puts} puts of lawful totals, {full} of them refused as full \
-             and {held} of a key held where there was no room"
+             expired, {stay_expired} of these after the run that expired them was rolled back; \
+             {rolled_back} runs rolled back; {left_out} roll-ups that leave out a total not \
+             reported; {scans} sessions that read every slot; {puts} puts of lawful totals, {full} \
+             of them refused as full and {held} of a key held where there was no room"
         );
         println!(
             "{} calls: numbers, table, record and block agree",

@@ -2,7 +2,7 @@
 //! Tables 1 to 4 that a call can come to, and the rare cases.
 
 use crate::comparison::counts::{add_all, shown};
-use crate::comparison::rare::Rare;
+use crate::comparison::rare::{Past, Rare};
 use crate::model::call::{Answer, Call, KINDS, Kind, Lent, Outcome};
 use crate::model::refusal::{REFUSALS, Refusal};
 use crate::model::slot::{DELETE, EMPTY, INSERT, Key, Slot, UPDATE};
@@ -23,6 +23,7 @@ const REACHABLE: [&[usize]; KINDS.len()] = [
     &[0, 1, 2, 3, 4, 6],
     &[0, 1, 2, 6, 8, 12, 13],
     &[0, 1, 2, 6, 8, 11],
+    &[0, 1, 2, 6, 8],
     &[0, 1, 2, 7],
     &[0, 1, 2, 5, 6, 7],
     &[0, 14, 15, 16],
@@ -35,7 +36,7 @@ type Cells = [[u64; OPERATIONS.len()]; ROWS];
 #[derive(Clone, Default, Debug)]
 pub struct Coverage {
     outcomes: [[u64; OUTCOMES]; KINDS.len()],
-    /// Table 1 by slot, by key and by roll-up; then Tables 2, 3 and 4
+    /// Table 1 by slot, by key and by roll-up; Tables 2, 3 and 4; then the roll back
     cells: [Cells; TABLES.len()],
     /// Table 2, no conflicting tuple: an empty slot taken, a deleted one taken
     taken: [u64; 2],
@@ -43,19 +44,22 @@ pub struct Coverage {
 }
 
 /// The tables by the call that comes to them, and the operations of a slot by which
-/// it does: a put of a live key comes to Table 3, of a deleted one to Table 2.
-const TABLES: [(&str, Kind, &[i64]); 6] = [
+/// it does: a put of a live key comes to Table 3, of a deleted one to Table 2. A roll
+/// back, which the source does not have, is counted as a table of its own.
+const TABLES: [(&str, Kind, &[i64]); 7] = [
     ("Table 1, read a slot", Kind::ReadSlot, &OPERATIONS),
     ("Table 1, read a key", Kind::ReadKey, &OPERATIONS),
     ("Table 1, roll-up", Kind::RollUp, &OPERATIONS),
     ("Table 2, put", Kind::Put, &[DELETE]),
     ("Table 3, put", Kind::Put, &[INSERT, UPDATE]),
     ("Table 4, delete", Kind::Delete, &OPERATIONS),
+    ("roll back", Kind::RollBack, &OPERATIONS),
 ];
 
 impl Coverage {
-    /// Counts a call on what was lent before it, and its outcome.
-    pub fn count(&mut self, call: &Call, before: &Lent, outcome: &Outcome) {
+    /// Counts a call on what was lent before it, its outcome, and what its case had
+    /// before.
+    pub fn count(&mut self, call: &Call, before: &Lent, outcome: &Outcome, past: &Past) {
         let number = match outcome {
             Ok(_) => ANSWERED,
             Err(refusal) => refusal.number() as usize,
@@ -79,9 +83,15 @@ impl Coverage {
             (Call::Put { key, .. } | Call::Delete { key }, Ok(_) | Err(Refusal::KeyNotLive)) => {
                 self.count_change(call.kind(), *key, before, outcome);
             }
+            (Call::RollBack, Ok(_)) => {
+                let run = before.record.says().run();
+                for slot in before.table.all_slots() {
+                    self.count_cell(call.kind(), &slot, slot.run < run);
+                }
+            }
             _ => {}
         }
-        self.rare.count(call, before, outcome);
+        self.rare.count(call, before, outcome, past);
     }
 
     fn count_change(&mut self, kind: Kind, key: Key, before: &Lent, outcome: &Outcome) {
@@ -161,7 +171,8 @@ impl Coverage {
 
     fn print_cells(&self) {
         let heads = ["insert", "update", "delete"].map(|name| format!("{name:>8}"));
-        println!("cells of the source's tables, the first row and then the second");
+        println!("cells of the source's tables, the first row and then the second; of a roll");
+        println!("back, rows of an older run and then of this one");
         println!("{:<24}{}{}", "", heads.concat(), heads.concat());
         for ((name, ..), rows) in TABLES.iter().zip(&self.cells) {
             let shown = rows.as_flattened().iter().map(|&count| shown(count));

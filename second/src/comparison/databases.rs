@@ -17,6 +17,10 @@ pub struct Tally {
     pub histories: usize,
     pub reads: usize,
     pub expired: usize,
+    /// runs that were rolled back
+    pub rolled_back: usize,
+    /// reads that are expired by no other run than one that was rolled back
+    pub stay_expired: usize,
     /// roll-ups that leave out a total that is not reported
     pub left_out: usize,
     /// sessions whose every slot was read
@@ -35,7 +39,7 @@ pub struct Followed {
     /// database v stands at v − 1
     committed: Vec<Database>,
     running: Option<Database>,
-    /// the number of the last run that has begun
+    /// the number of the last run that has begun, though it may be rolled back
     begun: i64,
     /// what each session read first in each slot, by session and then slot
     sights: BTreeMap<i64, BTreeMap<u64, Option<Row>>>,
@@ -80,6 +84,7 @@ impl Followed {
             Call::RollUp { session, one } => self.roll_up(session, one, out),
             Call::Put { key, totals } => self.put(key, totals, out),
             Call::Delete { key } if out[0] == ACCEPTED => self.delete(key),
+            Call::RollBack => self.roll_back(out),
             _ => Ok(()),
         }
     }
@@ -96,6 +101,18 @@ impl Followed {
         self.committed.extend(self.running.take());
         expect(version == self.current(), || {
             format!("{version} is not the count of committed databases")
+        })
+    }
+
+    /// In a run it is accepted. It makes no database, though the run has begun.
+    fn roll_back(&mut self, out: &Out) -> Result<(), String> {
+        if self.running.take().is_none() {
+            return expect(out[0] != ACCEPTED, || "a roll back with no run".to_string());
+        }
+        self.tally.rolled_back += 1;
+        let current = self.current();
+        expect(*out == version_words(current), || {
+            format!("a run at version {current} was rolled back")
         })
     }
 
@@ -118,6 +135,9 @@ impl Followed {
         )?;
         self.tally.reads += 1;
         self.tally.expired += usize::from(expired);
+        let by_committed = self.current() >= session + 2;
+        let stays = expired && !by_committed && self.running.is_none();
+        self.tally.stay_expired += usize::from(stays);
         Ok((!expired).then_some(database))
     }
 
@@ -177,7 +197,9 @@ impl Followed {
             return expect(out[0] != ACCEPTED, || "a put with no run".to_string());
         };
         if !is_lawful(totals) {
-            return expect(out[0] != ACCEPTED, || "totals that are not lawful".to_string());
+            return expect(out[0] != ACCEPTED, || {
+                "totals that are not lawful".to_string()
+            });
         }
         let keys = count_keys(running, current);
         let no_room = keys == self.slots;
@@ -206,6 +228,8 @@ impl AddAssign for Tally {
         self.histories += other.histories;
         self.reads += other.reads;
         self.expired += other.expired;
+        self.rolled_back += other.rolled_back;
+        self.stay_expired += other.stay_expired;
         self.left_out += other.left_out;
         self.scans += other.scans;
         self.puts += other.puts;
@@ -247,6 +271,11 @@ fn roll_up_words(rows: &[Totals]) -> Out {
 fn reported(rows: &[Totals], index: usize) -> Vec<i64> {
     let totals = rows.iter().map(|totals| totals[index]);
     totals.filter(|&total| is_reported(total)).collect()
+}
+
+/// What an accepted call leaves that answers a version.
+fn version_words(version: i64) -> Out {
+    [ACCEPTED, version, 0, 0, 0, 0, 0, 0]
 }
 
 fn row_words(row: Option<Row>) -> Out {

@@ -1,6 +1,6 @@
 //! The block of 512 bytes.
 
-use crate::model::record::{LARGEST_VERSION, Version};
+use crate::model::record::{FIRST_VERSION, LARGEST_VERSION, Version};
 use crate::model::refusal::Refusal;
 use crate::model::slot::{SLOT_WORDS, Slot};
 use crate::model::table::{MOST_SLOTS, Table};
@@ -15,9 +15,14 @@ pub const CHECK: usize = 127;
 pub const FIRST_FILLER: usize = 113;
 pub const HEADER_SLOTS: usize = 1;
 pub const HEADER_CURRENT: usize = 2;
-pub const HEADER_FIRST_FILLER: usize = 3;
+pub const HEADER_OLDEST: usize = 3;
+pub const HEADER_FIRST_FILLER: usize = 4;
 pub const SLOT_HALVES: usize = WORD_HALVES * SLOT_WORDS;
 pub const HALF_BYTES: usize = 4;
+
+/// What stands for the oldest open version in a header that was saved before headers
+/// had it.
+pub const NO_OLDEST: i64 = 0;
 
 const WORD_HALVES: usize = 2;
 
@@ -25,6 +30,15 @@ const WORD_HALVES: usize = 2;
 #[derive(Clone, Copy, PartialEq, Eq, Debug)]
 pub struct Block {
     pub words: [u32; BLOCK_WORDS],
+}
+
+/// What block 0 says.
+#[derive(Clone, Copy, PartialEq, Eq, Debug)]
+pub struct Header {
+    pub slots: usize,
+    pub current: i64,
+    /// the oldest open version
+    pub oldest: i64,
 }
 
 /// The number of blocks that hold so many slots; block 0 is not counted.
@@ -38,6 +52,19 @@ pub fn places(number: usize, slots: usize) -> std::ops::Range<usize> {
     first..slots.min(first + SLOTS_IN_A_BLOCK)
 }
 
+/// The oldest open version by the word of a header at a lawful current version, or
+/// refusal 16. Where there is none, it is the version before, or the first.
+fn oldest_read(word: i64, current: i64) -> Result<i64, Refusal> {
+    let before = current - 1;
+    if word == NO_OLDEST {
+        Ok(before.max(FIRST_VERSION))
+    } else if word == before || word == current {
+        Ok(word)
+    } else {
+        Err(Refusal::BlockField)
+    }
+}
+
 impl Block {
     fn zeros() -> Block {
         Block {
@@ -45,10 +72,12 @@ impl Block {
         }
     }
 
-    pub fn header(slots: usize, current: i64) -> Block {
+    /// Block 0.
+    pub fn of_header(header: Header) -> Block {
         let mut block = Block::zeros();
-        block.words[HEADER_SLOTS] = slots as u32;
-        block.words[HEADER_CURRENT] = current as u32;
+        block.words[HEADER_SLOTS] = header.slots as u32;
+        block.words[HEADER_CURRENT] = header.current as u32;
+        block.words[HEADER_OLDEST] = header.oldest as u32;
         block.mend();
         block
     }
@@ -100,18 +129,23 @@ impl Block {
         self.words[first..CHECK].iter().all(|&word| word == 0)
     }
 
-    /// The slots and the current version of block 0, or refusal 16.
-    pub fn read_header(&self) -> Result<(usize, i64), Refusal> {
+    /// What block 0 says, or refusal 16.
+    pub fn read_header(&self) -> Result<Header, Refusal> {
         let slots = self.words[HEADER_SLOTS] as usize;
         let current = i64::from(self.words[HEADER_CURRENT]);
         let allowed = self.words[NUMBER] == 0
             && (1..=MOST_SLOTS).contains(&slots)
-            && (1..=LARGEST_VERSION).contains(&current)
+            && (FIRST_VERSION..=LARGEST_VERSION).contains(&current)
             && self.is_zero_from(HEADER_FIRST_FILLER);
         if !allowed {
             return Err(Refusal::BlockField);
         }
-        Ok((slots, current))
+        let oldest = oldest_read(i64::from(self.words[HEADER_OLDEST]), current)?;
+        Ok(Header {
+            slots,
+            current,
+            oldest,
+        })
     }
 
     pub fn slot(&self, index: usize) -> Slot {

@@ -1,6 +1,6 @@
 //! The calls, their answers, and the numbers that a C caller gets.
 
-use crate::model::block::{BLOCK_BYTES, Block, HALF_BYTES};
+use crate::model::block::{BLOCK_BYTES, Block, HALF_BYTES, Header};
 use crate::model::record::VersionRecord;
 use crate::model::refusal::Refusal;
 use crate::model::slot::{Key, Row, Totals};
@@ -27,7 +27,7 @@ impl Lent {
     pub fn fresh(slots: usize) -> Lent {
         Lent {
             table: Table::fresh(slots),
-            record: VersionRecord::fresh([0, 0]),
+            record: VersionRecord::fresh(0),
         }
     }
 }
@@ -42,6 +42,7 @@ pub enum Kind {
     RollUp,
     Put,
     Delete,
+    RollBack,
     SaveHeader,
     SaveBlock,
     LoadHeader,
@@ -49,7 +50,7 @@ pub enum Kind {
 }
 
 /// Every kind of call, in the order of their numbers.
-pub const KINDS: [Kind; 12] = [
+pub const KINDS: [Kind; 13] = [
     Kind::Open,
     Kind::Begin,
     Kind::Commit,
@@ -58,6 +59,7 @@ pub const KINDS: [Kind; 12] = [
     Kind::RollUp,
     Kind::Put,
     Kind::Delete,
+    Kind::RollBack,
     Kind::SaveHeader,
     Kind::SaveBlock,
     Kind::LoadHeader,
@@ -74,6 +76,7 @@ pub enum Call {
     RollUp { session: i64, one: i64 },
     Put { key: Key, totals: Totals },
     Delete { key: Key },
+    RollBack,
     SaveHeader,
     SaveBlock { number: u64 },
     LoadHeader { block: Vec<u8> },
@@ -96,7 +99,7 @@ pub enum Answer {
     RollUp(RollUp),
     Slot(usize),
     Saved(Box<Block>),
-    Header { slots: usize, current: i64 },
+    Header(Header),
     Loaded,
 }
 
@@ -119,6 +122,7 @@ impl Call {
             Call::RollUp { .. } => Kind::RollUp,
             Call::Put { .. } => Kind::Put,
             Call::Delete { .. } => Kind::Delete,
+            Call::RollBack => Kind::RollBack,
             Call::SaveHeader => Kind::SaveHeader,
             Call::SaveBlock { .. } => Kind::SaveBlock,
             Call::LoadHeader { .. } => Kind::LoadHeader,
@@ -135,6 +139,16 @@ impl Call {
             Call::Delete { key } => [key.one, key.two, 0, 0],
             Call::SaveBlock { number } | Call::LoadBlock { number, .. } => [number as i64, 0, 0, 0],
             _ => [0; CALL_NUMBERS],
+        }
+    }
+
+    /// The session of a read.
+    pub fn session(&self) -> Option<i64> {
+        match *self {
+            Call::ReadSlot { session, .. }
+            | Call::ReadKey { session, .. }
+            | Call::RollUp { session, .. } => Some(session),
+            _ => None,
         }
     }
 
@@ -214,7 +228,11 @@ pub fn out_words(outcome: &Outcome) -> Out {
             sums,
         })) => vec![*rows, reported[0], reported[1], sums[0], sums[1]],
         Ok(Answer::Slot(place)) => vec![*place as i64],
-        Ok(Answer::Header { slots, current }) => vec![*slots as i64, *current],
+        Ok(Answer::Header(Header {
+            slots,
+            current,
+            oldest,
+        })) => vec![*slots as i64, *current, *oldest],
     };
     out[1..=numbers.len()].copy_from_slice(&numbers);
     out
@@ -233,6 +251,7 @@ impl fmt::Display for Call {
                 write!(to, "put {} {}, totals {first} {second}", key.one, key.two)
             }
             Call::Delete { key } => write!(to, "delete {} {}", key.one, key.two),
+            Call::RollBack => write!(to, "roll back"),
             Call::SaveHeader => write!(to, "save header"),
             Call::SaveBlock { number } => write!(to, "save block {number}"),
             Call::LoadHeader { block } => write!(to, "load header from {}", shown(block)),

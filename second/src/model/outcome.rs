@@ -1,6 +1,6 @@
 //! What each call answers and writes.
 
-use crate::model::block::{self, Block};
+use crate::model::block::{self, Block, Header};
 use crate::model::call::{Answer, Call, Lent, Outcome, RollUp};
 use crate::model::record::{LARGEST_VERSION, Version};
 use crate::model::refusal::Refusal;
@@ -17,6 +17,7 @@ pub fn make_call(call: &Call, lent: &mut Lent) -> Outcome {
         Call::RollUp { session, one } => roll_up(lent, *session, *one),
         Call::Put { key, totals } => put(lent, *key, *totals),
         Call::Delete { key } => delete(lent, *key),
+        Call::RollBack => roll_back(lent),
         Call::SaveHeader => save_header(lent),
         Call::SaveBlock { number } => save_block(lent, *number),
         Call::LoadHeader { block } => load_header(block),
@@ -34,6 +35,7 @@ fn begin(lent: &mut Lent) -> Outcome {
     }
     lent.record.set(Version {
         run_active: true,
+        oldest: version.current,
         ..version
     });
     Ok(Answer::Version(version.run()))
@@ -47,6 +49,7 @@ fn commit(lent: &mut Lent) -> Outcome {
     lent.record.set(Version {
         current: version.run(),
         run_active: false,
+        ..version
     });
     Ok(Answer::Version(version.run()))
 }
@@ -80,13 +83,7 @@ fn read_key(lent: &Lent, session: i64, key: Key) -> Outcome {
 
 fn roll_up(lent: &Lent, session: i64, one: i64) -> Outcome {
     let version = admit(lent, session)?;
-    if !lent
-        .table
-        .all_slots()
-        .all(|slot| slot.is_well_formed(version))
-    {
-        return Err(Refusal::NotWellFormed);
-    }
+    lent.table.all_well_formed(version)?;
     let seen = lent
         .table
         .all_slots()
@@ -110,7 +107,7 @@ fn add_row(answer: &mut RollUp, row: &Row) {
     }
 }
 
-/// Refusals 1, 2 and 8, which every change tests first.
+/// Refusals 1, 2 and 8, which every change and the roll back test first.
 fn running(lent: &Lent) -> Result<Version, Refusal> {
     lent.table.slots()?;
     let version = lent.record.version()?;
@@ -153,6 +150,21 @@ fn delete(lent: &mut Lent, key: Key) -> Outcome {
     Ok(Answer::Slot(place))
 }
 
+/// Every slot is tested before the first is written.
+fn roll_back(lent: &mut Lent) -> Outcome {
+    let version = running(lent)?;
+    lent.table.all_well_formed(version)?;
+    for place in 0..lent.table.slots()? {
+        let slot = lent.table.slot(place);
+        lent.table.write(place, &slot.rolled_back(version));
+    }
+    lent.record.set(Version {
+        run_active: false,
+        ..version
+    });
+    Ok(Answer::Version(version.current))
+}
+
 /// Refusals 1, 2 and 7, which every save and the load of slots test first.
 fn between_runs(lent: &Lent) -> Result<Version, Refusal> {
     lent.table.slots()?;
@@ -175,7 +187,11 @@ fn block_number(lent: &Lent, number: u64) -> Result<usize, Refusal> {
 
 fn save_header(lent: &Lent) -> Outcome {
     let version = between_runs(lent)?;
-    let block = Block::header(lent.table.slots()?, version.current);
+    let block = Block::of_header(Header {
+        slots: lent.table.slots()?,
+        current: version.current,
+        oldest: version.oldest,
+    });
     Ok(Answer::Saved(Box::new(block)))
 }
 
@@ -187,8 +203,8 @@ fn save_block(lent: &Lent, number: u64) -> Outcome {
 }
 
 fn load_header(bytes: &[u8]) -> Outcome {
-    let (slots, current) = Block::from_bytes(bytes)?.read_header()?;
-    Ok(Answer::Header { slots, current })
+    let header = Block::from_bytes(bytes)?.read_header()?;
+    Ok(Answer::Header(header))
 }
 
 fn load_block(lent: &mut Lent, number: u64, bytes: &[u8]) -> Outcome {

@@ -1,16 +1,18 @@
-//! The version record: the current version and whether a run is active.
+//! The version record: the current version, whether a run is active, and the oldest
+//! open version.
 
 use crate::model::refusal::Refusal;
 
 pub const RECORD_WORDS: usize = 4;
+pub const FIRST_VERSION: i64 = 1;
 pub const LARGEST_VERSION: i64 = 1_000_000_000;
+
+pub const NO_RUN: i64 = 0;
+pub const A_RUN: i64 = 1;
 
 const CURRENT: usize = 0;
 const RUN_MARK: usize = 1;
-
-const FIRST_VERSION: i64 = 1;
-const NO_RUN: i64 = 0;
-const A_RUN: i64 = 1;
+const OLDEST: usize = 2;
 
 /// The record as it is lent: any four words.
 #[derive(Clone, Copy, PartialEq, Eq, Debug)]
@@ -23,22 +25,26 @@ pub struct VersionRecord {
 pub struct Version {
     pub current: i64,
     pub run_active: bool,
+    /// the oldest open version
+    pub oldest: i64,
 }
 
 impl VersionRecord {
-    pub fn new(current: i64, run_mark: i64, rest: [i64; 2]) -> VersionRecord {
+    /// A record of these words, the last of which no call looks at.
+    pub fn new(current: i64, run_mark: i64, oldest: i64, rest: i64) -> VersionRecord {
         VersionRecord {
-            words: [current, run_mark, rest[0], rest[1]],
+            words: [current, run_mark, oldest, rest],
         }
     }
 
-    /// A fresh record, with any words where no call looks.
-    pub fn fresh(rest: [i64; 2]) -> VersionRecord {
-        VersionRecord::new(FIRST_VERSION, NO_RUN, rest)
+    /// A fresh record, with any word where no call looks.
+    pub fn fresh(rest: i64) -> VersionRecord {
+        VersionRecord::new(FIRST_VERSION, NO_RUN, FIRST_VERSION, rest)
     }
 
     pub fn is_fresh(&self) -> bool {
-        self.words[CURRENT] == FIRST_VERSION && self.words[RUN_MARK] == NO_RUN
+        let [.., rest] = self.words;
+        *self == VersionRecord::fresh(rest)
     }
 
     /// What the record says, though it may be refused.
@@ -46,30 +52,25 @@ impl VersionRecord {
         Version {
             current: self.words[CURRENT],
             run_active: self.words[RUN_MARK] == A_RUN,
+            oldest: self.words[OLDEST],
         }
     }
 
     /// The version, or refusal 2.
     pub fn version(&self) -> Result<Version, Refusal> {
-        let current = self.words[CURRENT];
-        let run_active = match self.words[RUN_MARK] {
-            NO_RUN => false,
-            A_RUN => true,
-            _ => return Err(Refusal::VersionRecord),
-        };
-        let largest = LARGEST_VERSION - i64::from(run_active);
-        if !(FIRST_VERSION..=largest).contains(&current) {
-            return Err(Refusal::VersionRecord);
+        let version = self.says();
+        let is_mark = [NO_RUN, A_RUN].contains(&self.words[RUN_MARK]);
+        if is_mark && version.has_lawful_current() && version.has_lawful_oldest() {
+            Ok(version)
+        } else {
+            Err(Refusal::VersionRecord)
         }
-        Ok(Version {
-            current,
-            run_active,
-        })
     }
 
     pub fn set(&mut self, version: Version) {
         self.words[CURRENT] = version.current;
-        self.words[RUN_MARK] = i64::from(version.run_active);
+        self.words[RUN_MARK] = if version.run_active { A_RUN } else { NO_RUN };
+        self.words[OLDEST] = version.oldest;
     }
 }
 
@@ -84,13 +85,24 @@ impl Version {
         self.current + i64::from(self.run_active)
     }
 
+    fn has_lawful_current(self) -> bool {
+        let largest = LARGEST_VERSION - i64::from(self.run_active);
+        (FIRST_VERSION..=largest).contains(&self.current)
+    }
+
+    /// Whether the oldest open version, at a lawful current one, is that one or, while
+    /// no run is active, the one before it, if there is one.
+    fn has_lawful_oldest(self) -> bool {
+        let lowest = self.current - i64::from(!self.run_active);
+        (lowest.max(FIRST_VERSION)..=self.current).contains(&self.oldest)
+    }
+
     /// Refusals 3 and 4.
     pub fn admit(self, session: i64) -> Result<(), Refusal> {
-        if session < 1 || session > self.current {
+        if session < FIRST_VERSION || session > self.current {
             return Err(Refusal::SessionUnknown);
         }
-        let oldest = self.current - i64::from(!self.run_active);
-        if session < oldest {
+        if session < self.oldest {
             return Err(Refusal::SessionExpired);
         }
         Ok(())

@@ -163,6 +163,18 @@ impl Slot {
         slot
     }
 
+    /// A well formed slot without what the run did to it: a row that the run inserted
+    /// goes, and one that it updated or deleted is again what it was before.
+    pub fn rolled_back(self, version: Version) -> Slot {
+        if self.run != version.run() {
+            return self;
+        }
+        if self.operation == INSERT {
+            return Slot::zeros();
+        }
+        Slot::new_insert(version.current, self.key, self.old)
+    }
+
     /// Table 4.
     pub fn deleted(self, run: i64) -> Result<Slot, Refusal> {
         if !self.is_live() {

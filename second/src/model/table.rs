@@ -51,6 +51,15 @@ impl Table {
         }
     }
 
+    /// Refusal 6, for any slot.
+    pub fn all_well_formed(&self, version: Version) -> Result<(), Refusal> {
+        if self.all_slots().all(|slot| slot.is_well_formed(version)) {
+            Ok(())
+        } else {
+            Err(Refusal::NotWellFormed)
+        }
+    }
+
     /// The place of the key's slot.
     pub fn keys_slot(&self, key: Key) -> Option<usize> {
         self.all_slots()

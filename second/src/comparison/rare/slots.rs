@@ -1,6 +1,7 @@
 //! The rare cases of a slot that a call rests on, by the call: a total in it that is
 //! not reported, or what is just not allowed for such a total.
 
+use crate::comparison::rare::{CaseByKind, READS};
 use crate::model::block::{self, Block};
 use crate::model::call::{Call, Kind, Lent, Outcome};
 use crate::model::record::Version;
@@ -8,23 +9,20 @@ use crate::model::refusal::Refusal;
 use crate::model::slot::{INSERT, NOT_REPORTED, Slot, Totals, UPDATE, is_reported};
 
 /// The calls that rest on slots.
-pub const KINDS: [Kind; 7] = [
+pub const KINDS: [Kind; 8] = [
     Kind::ReadSlot,
     Kind::ReadKey,
     Kind::RollUp,
     Kind::Put,
     Kind::Delete,
+    Kind::RollBack,
     Kind::SaveBlock,
     Kind::LoadBlock,
 ];
 
-/// The calls that a session makes.
-const READS: [Kind; 3] = [Kind::ReadSlot, Kind::ReadKey, Kind::RollUp];
-
 /// The slots that a call rests on: of a roll-up that is answered, those with its first
 /// key word; of a load, those that the block brings.
 pub struct MetSlots {
-    pub kind: Kind,
     version: Version,
     /// the session of a read
     session: Option<i64>,
@@ -32,10 +30,7 @@ pub struct MetSlots {
     answered: bool,
 }
 
-type IsMet = fn(&MetSlots) -> bool;
-
-/// What each case is called, the calls that must meet it, and whether one did.
-pub const CASES: [(&str, &[Kind], IsMet); 8] = [
+pub const CASES: [CaseByKind<MetSlots>; 8] = [
     ("a current total not reported, answered", &KINDS, |met| {
         met.answered && met.has(|slot| lacks_report(slot.current))
     }),
@@ -80,16 +75,9 @@ impl MetSlots {
             Err(Refusal::NotWellFormed | Refusal::BlockField) => false,
             Err(_) => return None,
         };
-        let session = match *call {
-            Call::ReadSlot { session, .. }
-            | Call::ReadKey { session, .. }
-            | Call::RollUp { session, .. } => Some(session),
-            _ => None,
-        };
         Some(MetSlots {
-            kind: call.kind(),
             version: before.record.version().ok()?,
-            session,
+            session: call.session(),
             slots: rested_on(call, before, answered)?,
             answered,
         })
@@ -137,6 +125,7 @@ fn rested_on(call: &Call, before: &Lent, answered: bool) -> Option<Vec<Slot>> {
             .all_slots()
             .filter(|slot| !answered || slot.key.one == *one)
             .collect(),
+        Call::RollBack => table.all_slots().collect(),
         Call::SaveBlock { number } => block::places(*number as usize, table.slots().ok()?)
             .map(|place| table.slot(place))
             .collect(),
