@@ -1,5 +1,6 @@
 -- What an accepted change of a whole table in which no key has two slots leaves, one theorem a call: its slot is written to the
--- effect that the call says, and no other slot has the key. Each goes by the cell that the slot's run and operation choose. Assumes nothing.
+-- effect that the call says, and no other slot has the key. Each goes by the cell that the slot's run and operation choose. Assumes
+-- nothing.
 use mathlib.Core.Path.{_≡_, refl, sym, _∙_}
 use mathlib.Core.Bool.{true, false}
 use mathlib.Core.List.{List}

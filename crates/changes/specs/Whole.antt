@@ -4,10 +4,8 @@ use mathlib.Core.Path.{_≡_, _∙_}
 use mathlib.Core.Bool.{true, false}
 use mathlib.Core.List.{List}
 use Prim.Native.Nat.{ℕ, _<_}
-use lib.Dec.{eqb}
 use lib.IntN.{ℤ}
-use borrow.Author.Tests.{eqb-true, eqb-false}
-use Rattle.laws.specs.TestLaws.{by-test}
+use Rattle.laws.specs.TestLaws.{by-test, by-place}
 use Rattle.versions.specs.declared.VersionRecord.{VersionRecord}
 use Rattle.table.specs.declared.Slot.{Slot}
 use Rattle.table.specs.Slots.{badTable, slots, slotAt, putSlot}
@@ -32,10 +30,6 @@ pub record Wrote (t : List ℤ) (v : VersionRecord) (key1 key2 : ℤ) (after : S
   pub words : t′ ≡ putSlot t k slot
   pub alone : (j : ℕ) → (j ≡ k → ⊥) → hasKey (slotAt t j) key1 key2 ≡ false
   pub effect : Effect v (slotAt t k) slot key1 key2 after
-
--- ---- every slot after the write is the written one, or the one that stood there
-pub by-place : {P : Type 0} (j k : ℕ) → (j ≡ k → P) → ((j ≡ k → ⊥) → P) → P
-by-place j k f g = by-test (eqb j k) (λ y. f (eqb-true j k y)) (λ n. g (eqb-false j k n))
 
 -- where no key has two slots, a key's slot is the only one that has it
 pub only-slot : (t : List ℤ) → KeysApart t → (k : ℕ) (key1 key2 : ℤ) → hasKey (slotAt t k) key1 key2 ≡ true

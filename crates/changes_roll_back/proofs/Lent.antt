@@ -146,7 +146,8 @@ module _ {M : Type 1} (Turns : List ℤ → VersionRecord → Turned → List �
     module _ (C : Calls 𝓤 H) (Λ : Loops 𝓤 H) (framed : FmC 𝓤 H (W .laws) C) (g : Name) (known : Triple 𝓤 (C g) ByValue)
         (k : ℕ) (holds : holdsRecord k ≡ true)
         (meets : (t : List ℤ) (v : VersionRecord) (r : Turned) (t′ : List ℤ) → Turns t v r t′ → Turns t v (leaving (r .answer) (stored k v r)) t′) where
-      -- ---- the walk, at two lifetimes and shares of their tokens, at a reference and the record v behind it, and at a slice of the words t
+      -- ---- the walk, at two lifetimes and shares of their tokens, at a reference and the record v behind it, and at a slice of the
+      -- words t
       module _ (κ κ′ : Lft) (q q′ : Share) (b o : ℕ) (γ : GName) (v : VersionRecord) (b′ o′ : ℕ) (γ′ : GName) (t : List ℤ) where
         abbrev table : RefT (List ℤ)
         table = record { ptr = (b′, o′); name = γ′; now = t }

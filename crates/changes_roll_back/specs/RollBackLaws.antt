@@ -10,7 +10,7 @@ use lib.IntN.{ℤ, pos, negsuc, _+ℤ_}
 use lib.ListN.{length}
 use lib.Signed.{leZ}
 use borrow.Author.Tests.{leb-true, le-leb, eqb-false}
-use Rattle.laws.specs.TestLaws.{by-test, by-order, clash, not-no}
+use Rattle.laws.specs.TestLaws.{by-test, by-order, by-place, clash, not-no}
 use Rattle.laws.specs.FirstLaws.{unless-refused, unless-done, none, skip, hit, done}
 use Rattle.laws.specs.OrderLaws.{eqZ-true, leZ-refl, next-leZ, next-low, from-to}
 use Rattle.laws.specs.Order.{eqZ, fromTo}
@@ -23,7 +23,7 @@ use Rattle.versions_runs.specs.declared.Turned.{Turned}
 use Rattle.versions_runs.specs.Runs.{keptAs, leaving}
 use Rattle.table.specs.declared.Slot.{Slot}
 use Rattle.table.specs.Slots.{slotWords, empty, badTable, slots, slotAt, putSlot}
-use Rattle.table.specs.SlotLaws.{put-length, put-same, put-other, same-length, slotAt-past, by-slots}
+use Rattle.table.specs.SlotLaws.{put-length, put-same, put-other, same-length, slotAt-past}
 use Rattle.table_forms.specs.Operations.{emptyOperation, insertOperation, deleteOperation, live}
 use Rattle.table_forms.specs.OperationLaws.{live-cases, live-insert}
 use Rattle.table_forms.specs.TotalLaws.{lawful-zero}
@@ -33,7 +33,7 @@ use Rattle.table_keys.specs.Keys.{hasKey}
 use Rattle.table_keys.specs.KeyLaws.{has-key, keyed-has, empty-keyless}
 use Rattle.reads.specs.Table1.{shown, oldRow}
 use Rattle.reads.specs.Table1Laws.{shown-current, shown-updated, shown-removed, shown-inserted, shown-empty}
-use Rattle.changes.specs.Whole.{Whole, KeysApart, by-place}
+use Rattle.changes.specs.Whole.{Whole, KeysApart}
 use Rattle.changes_roll_back.specs.RollBack.{asBefore, rolledBack, slotsBack, rolledBackFrom, rollBackRefusal, rollBackAnswer, rollBackWords, rollBackRecord, RollBackContract}
 
 -- ---- a slot of another run stays, one that the run inserted is empty, and any other of the run is as it was before it
@@ -78,12 +78,6 @@ back-done t v shape (suc n) k h l =
 pub back-next : (t : List ℤ) (v : VersionRecord) (n : ℕ) {u u′ : List ℤ} → u ≡ slotsBack t v n
     → u′ ≡ putSlot u n (rolledBack v (slotAt u n)) → u′ ≡ slotsBack t v (suc n)
 back-next t v n e put = (rw e at put) ∙ ap (λ x. putSlot (slotsBack t v n) n (rolledBack v x)) (back-kept t v n n (omega arith))
-
--- ---- a slot put where it stands leaves the table
-pub put-standing : (t : List ℤ) (k : ℕ) → badTable t ≡ false → k < slots t → putSlot t k (slotAt t k) ≡ t
-put-standing t k shape l =
-    by-slots _ t (put-length t k _)
-    (λ j. by-place j k (λ e. rw e (put-same t k _ shape l)) (λ ne. put-other t k j _ ne))
 
 -- ---- the record that is left is sound
 pub rolled-back-sound : (v : VersionRecord) → badRecord v ≡ false → badRecord (rolledBackFrom v) ≡ false

@@ -91,7 +91,6 @@ fn roll_back_refusal(table: &[i64], versions: VersionRecord) -> u32
 
 // The run ends and current stays, which is the answer.
 fn ended(versions: VersionRecord) -> Turned
-    requires { ⌜ badRecord versions ≡ false ⌝ }
     ensures { λ r. ⌜ r ≡ leaving (Version (versions .current)) (rolledBackFrom versions) ⌝ }
 {
     let current = versions.current;

@@ -1,6 +1,6 @@
--- Fields of demand 3's statement at computed histories of tables of one slot and of three: what the wrong builds of RULES.md would break, and
--- a wrong tally. They follow from `demand3` too; here they are computed from the definitions alone, so that a wrong build in
--- these makes one of them false (`.ci/wrong-builds`). Assumes nothing.
+-- Fields of demand 3's statement at computed histories of tables of one slot and of three: what the wrong builds of RULES.md would
+-- break, and a wrong tally. They follow from `demand3` too; here they are computed from the definitions alone, so that a wrong build
+-- in these makes one of them false (`.ci/wrong-builds`). Assumes nothing.
 use mathlib.Core.Path.{_≡_, refl, sym, ap, _∙_}
 use mathlib.Core.List.{List, [], _∷_}
 use Prim.Native.Nat.{ℕ}

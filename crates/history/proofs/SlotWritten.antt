@@ -9,11 +9,10 @@ use Prim.Native.Nat.{ℕ, suc, _<_}
 use lib.Dec.{eqb}
 use lib.IntN.{ℤ}
 use borrow.Author.Tests.{eqb-false}
-use Rattle.laws.specs.TestLaws.{by-test, clash}
+use Rattle.laws.specs.TestLaws.{by-test, by-place, clash}
 use Rattle.calls.specs.Seen.{Seen}
 use Rattle.calls.specs.Seen as seen
 use Rattle.changes.specs.Effects.{Own}
-use Rattle.changes.specs.Whole.{by-place}
 use Rattle.history.specs.Databases.{Database, row, without, Change, changed, rowsOf, upTo}
 use Rattle.history.specs.Followed.{Followed, current, running, Committed, Gone, withChange}
 use Rattle.history.proofs.DatabaseLaws.{without-absent, without-perm, is-key}

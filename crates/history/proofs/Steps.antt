@@ -1,6 +1,6 @@
--- What every call does to the table of two versions: the table and its record stay sound, and its view makes a step. A refused
--- call leaves the words, the record and what is followed as they were; an accepted change, begin, commit or roll back is a lemma of `Table`.
--- Assumes nothing.
+-- What every call does to the table of two versions: the table and its record stay sound, and its view makes a step. A refused call
+-- leaves the words, the record and what is followed as they were; an accepted change, begin, commit or roll back is a lemma of
+-- `Table`. Assumes nothing.
 use mathlib.Core.Path.{_≡_, refl, sym, ap, _∙_}
 use mathlib.Core.Bool.{false}
 use mathlib.Core.List.{List, [], _∷_, _++_}

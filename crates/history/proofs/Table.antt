@@ -1,6 +1,7 @@
 -- The table of two versions as a view: a version sees of a slot what Table 1 shows, and a slot has the key of its words. The key
 -- search finds a key's place. An accepted change writes one slot to its effect; at a begin no slot is of a run above current, so
--- that the next number shows what current shows; a roll back leaves what current shows of each slot. What the table itself keeps in a history is `Sound`. Assumes nothing.
+-- that the next number shows what current shows; a roll back leaves what current shows of each slot. What the table itself keeps in
+-- a history is `Sound`. Assumes nothing.
 use mathlib.Core.Path.{_≡_, refl, sym, _∙_}
 use mathlib.Core.Bool.{true}
 use mathlib.Core.Logic.{⊎-elim}

@@ -115,8 +115,8 @@ module _ {K : Kind} where
 
   -- ---- the databases: database v + 1 is what the changes of run v + 1 make of database v, one by one; a committed one is never
   -- altered; between runs the running one is the current; and no key stands twice in one. Call by call: a run begins with the
-  -- current database; what goes in of a call makes what it says of the running one; a commit makes that the next; and a roll back leaves the
-  -- current one
+  -- current database; what goes in of a call makes what it says of the running one; a commit makes that the next; and a roll back
+  -- leaves the current one
   pub record Databases (w : World K) : Type 0 where
     pub begun : (call : K .Call) → heardOf call w ≡ beganRun → running (next call w .told) ≡ databaseAt (w .told) (current (w .told))
     pub changed : (call : K .Call) (l : List Change) → heardOf call w ≡ wentIn l → running (next call w .told) ≡ madeBy l (running (w .told))

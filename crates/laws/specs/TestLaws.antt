@@ -4,9 +4,9 @@ use mathlib.Core.Path.{_≡_, refl, sym, ap, _∙_, subst}
 use mathlib.Core.Bool.{Bool, true, false, false≢true, not, _&&_}
 use mathlib.Core.List.{List, [], _∷_, map}
 use Prim.Native.Nat.{ℕ, zero, suc, _≤_, _<_}
-use lib.Dec.{ltb}
+use lib.Dec.{ltb, eqb}
 use lib.ListN.{getD, List·getD-map}
-use borrow.Author.Tests.{ltb-true, ltb-false}
+use borrow.Author.Tests.{ltb-true, ltb-false, eqb-true, eqb-false}
 use Rattle.laws.specs.Tests.{andAll, all, orAny, any}
 
 -- ---- going by a test
@@ -17,6 +17,10 @@ by-test false f g = g refl
 -- by the order of two numbers
 pub by-order : {P : Type 0} (a b : ℕ) → (a < b → P) → (b ≤ a → P) → P
 by-order a b f g = by-test (ltb a b) (λ y. f (ltb-true a b y)) (λ n. g (ltb-false a b n))
+
+-- by whether two numbers are one
+pub by-place : {P : Type 0} (j k : ℕ) → (j ≡ k → P) → ((j ≡ k → ⊥) → P) → P
+by-place j k f g = by-test (eqb j k) (λ y. f (eqb-true j k y)) (λ n. g (eqb-false j k n))
 
 pub clash : {P : Type 0} {t : Bool} → t ≡ true → t ≡ false → P
 clash y n = absurd (false≢true (sym n ∙ y))

@@ -10,7 +10,7 @@ use lib.IntN.{ℤ, pos}
 use lib.ListN.{length, getD, getD-replicate, length-replicate, replicate, List·getD-eq-default}
 use lib.Seq.{sets, length-sets}
 use borrow.Author.Tests.{eqb-true, eqb-false, ltb-false, ltb-true, eq-eqb, ne-eqb, le-ltb}
-use Rattle.laws.specs.TestLaws.{none-at, not-no, by-test}
+use Rattle.laws.specs.TestLaws.{none-at, not-no, by-test, by-place}
 use Rattle.laws.specs.Tests.{any}
 use Rattle.laws.specs.Stores.{sets-before, sets-past, sets-within, by-groups}
 use Rattle.table.specs.declared.Slot.{Slot}
@@ -112,6 +112,12 @@ pub by-slots : (t u : List ℤ) → length t ≡ length u → ((k : ℕ) → slo
 by-slots t u e same =
     by-groups (pos 0) slotWords (omega arith) t u e
     (λ k n b. sym (word-at t k n b) ∙ ap (λ x. getD (wordsOf x) n (pos 0)) (same k) ∙ word-at u k n b)
+
+-- a slot put where it stands leaves the table
+pub put-standing : (t : List ℤ) (k : ℕ) → badTable t ≡ false → k < slots t → putSlot t k (slotAt t k) ≡ t
+put-standing t k shape l =
+    by-slots _ t (put-length t k _)
+    (λ j. by-place j k (λ e. rw e (put-same t k _ shape l)) (λ ne. put-other t k j _ ne))
 
 -- ---- a fresh table of 1 to 1,024 slots is not refused, has as many, and each is empty
 pub fresh-length : (n : ℕ) → length (freshTable n) ≡ n * slotWords

@@ -1,6 +1,6 @@
 -- The laws of open sessions: a session is expired exactly if it is below the oldest open version; during a run the one open session
--- is current; a session from the oldest to current is open; no run's number is above the next of an open session. Each goes by the record in
--- counting numbers. Assumes nothing.
+-- is current; a session from the oldest to current is open; no run's number is above the next of an open session. Each goes by the
+-- record in counting numbers. Assumes nothing.
 use mathlib.Core.Path.{_≡_, refl, sym, ap, _∙_}
 use mathlib.Core.Bool.{true, false, not}
 use Prim.Native.Nat.{ℕ, zero, suc, _+_, _≤_}

@@ -36,7 +36,8 @@ fn kept(versions: VersionRecord, number: u32) -> Turned
     }
 }
 
-// Begin, by value.
+// Begin, by value. The oldest open version stands in a local so that must-fail/begin_keeps_the_oldest.edit can read the record's in its
+// place, at the same places of the proof.
 pub fn begin_by_value(versions: VersionRecord) -> Turned
     ensures { λ r. ⌜ BeginContract versions r ⌝ }
 {
@@ -50,12 +51,13 @@ pub fn begin_by_value(versions: VersionRecord) -> Turned
     if current == VersionRecord::LARGEST {
         return kept(versions, refusals::NO_VERSION_LEFT);
     }
+    let oldest_open = versions.current;
     Turned {
         answer: Numbered::Version(versions::run_number(versions)),
         versions: VersionRecord {
             current: current,
             active: true,
-            oldest: current,
+            oldest: oldest_open,
         },
     }
 }

@@ -10,8 +10,8 @@ use Rattle.laws.specs.Bits.{isnt}
 use Rattle.laws.specs.Order.{eqZ}
 use Rattle.versions.specs.Record.{runNumber}
 use Rattle.table.specs.Slots.{slotWords, runPlace, word, slotAt, putSlot}
-use Rattle.table.specs.SlotLaws.{slot-from}
-use Rattle.changes_roll_back.specs.RollBackLaws.{back-other, put-standing}
+use Rattle.table.specs.SlotLaws.{slot-from, put-standing}
+use Rattle.changes_roll_back.specs.RollBackLaws.{back-other}
 use Rattle.changes_roll_back.proofs.put_slot_back.Statement.{statement}
 use Rattle.changes_roll_back.proofs.put_slot_back.Tie as tie
 

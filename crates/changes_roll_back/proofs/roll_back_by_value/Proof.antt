@@ -37,4 +37,4 @@ roll-back-by-value-spec =
     tie.close
     (tie.spec (λ c κs. search needs) (λ c. search needs) refused
     (λ c κs. let w = can (c .before) in (w .shape, w .known))
-    (λ c κs. can (past c) .known) (λ c. search needs) done)
+    (λ c κs. search needs) (λ c. search needs) done)

@@ -60,7 +60,7 @@ is9 c =
 
 begins : tie.Need-returns-4
 begins c =
-    let free = c .before in
+    let free = c .before .before in
     let read = free .before in
     begin-done
     (past7 read ∙ skip _ _ (isnt _ largestVersion (current read) (search needs) (free .if3 .left)) ∙ done)
@@ -74,4 +74,4 @@ begin-by-value-spec =
     (λ c κs. search needs) is2
     (λ c κs. search needs) is7
     (λ c κs. search needs) is9
-    (λ c κs. past2 (sound (c .before))) begins)
+    (λ c κs. past2 (sound (c .before .before))) begins)
