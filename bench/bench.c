@@ -102,6 +102,12 @@ static void locked_row(void) {
 static void probe_gone(void) { probe_delete(at->table, words, ACTIVE, one, two, out), put_back(); }
 static void hand_gone(void) { hand_delete(at->table, words, ACTIVE, one, two, out), put_back(); }
 
+// ---- the bodies: roll back, of a record that is in a run each time; what it put back is then of the run again
+static int64_t turned[RECORD_WORDS];
+
+static void probe_back(void) { memcpy(turned, ACTIVE, sizeof turned), probe_roll_back(at->table, words, turned, out), put_run_back(); }
+static void hand_back(void) { memcpy(turned, ACTIVE, sizeof turned), hand_roll_back(at->table, words, turned, out), put_run_back(); }
+
 // ---- the bodies: blocks
 static void probe_save(void) { probe_save_block(at->table, words, IDLE, BLOCK, at->block, out); }
 static void hand_save(void) { hand_save_block(at->table, words, IDLE, BLOCK, at->block, out); }
@@ -110,7 +116,7 @@ static void hand_load(void) { hand_load_block(at->table, words, IDLE, BLOCK, at-
 
 // ---- the comparison before a row is timed
 typedef struct {
-    int64_t answer[OUT_WORDS], table[MOST_WORDS];
+    int64_t answer[OUT_WORDS], table[MOST_WORDS], record[RECORD_WORDS];
     uint8_t block[BLOCK_BYTES];
 } Left;
 
@@ -122,12 +128,13 @@ static void leave(Left *left, const Lent *from, Body *body) {
     at = &copy;
     body();
     memcpy(left->answer, out, sizeof out);
+    memcpy(left->record, turned, sizeof turned);
     at = from;
 }
 
 static int same_left(const Left *a, const Left *b) {
     return memcmp(a->answer, b->answer, sizeof a->answer) == 0 && memcmp(a->table, b->table, words * sizeof(int64_t)) == 0 &&
-           memcmp(a->block, b->block, BLOCK_BYTES) == 0;
+           memcmp(a->record, b->record, sizeof a->record) == 0 && memcmp(a->block, b->block, BLOCK_BYTES) == 0;
 }
 
 // The library and the C answer, and leave the same of every table; the other sides leave the same of the first. Else it is said at
@@ -315,6 +322,18 @@ static void change_rows(void) {
         for (size_t c = 0; c < COUNT_OF(counts); c++) change_rows_of(KINDS[k], counts[c]);
 }
 
+static void roll_back_rows(void) {
+    const size_t counts[] = {SOME, MANY};
+    char call[NAME_BYTES];
+    for (size_t k = 0; k < COUNT_OF(KINDS); k++)
+        for (size_t c = 0; c < COUNT_OF(counts); c++) {
+            fill(KINDS[k], counts[c]);
+            change_in_run();
+            snprintf(call, sizeof call, "roll back, %zu slots", slots);
+            pair(call, "", probe_back, hand_back);
+        }
+}
+
 static void block_rows(void) {
     for (size_t k = 0; k < COUNT_OF(KINDS); k++) {
         fill(KINDS[k], SOME);
@@ -339,6 +358,7 @@ int main(int count, char **given) {
     read_rows(group_rows);
     slot_rows();
     change_rows();
+    roll_back_rows();
     block_rows();
     must(fclose(lines) == 0, given[2]);
     return 0;

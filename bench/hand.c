@@ -257,6 +257,30 @@ void hand_delete(int64_t *table, size_t words, const int64_t record[4], int64_t 
     }
 }
 
+// A row of this run as it was before it: an inserted one is emptied, any other has its old totals as an insert at current.
+static void put_row_back(int64_t *x, Version v) {
+    if (x[RUN] != v.current + 1) return;
+    if (x[OPERATION] == INSERT)
+        memset(x, 0, SLOT_WORDS * sizeof(int64_t));
+    else
+        start_row(x, v.current, x[KEY_ONE], x[KEY_TWO], x[OLD_ONE], x[OLD_TWO]);
+}
+
+// A walk that tests and a walk that writes, so that a refused roll back has written nothing.
+void hand_roll_back(int64_t *table, size_t words, int64_t record[4], int64_t out[8]) {
+    Version v = version_of(record);
+    clear(out, change_refusal(words, v, 0, 0));
+    if (out[0] != 0) return;
+    for (const int64_t *x = table; x < table + words; x += SLOT_WORDS)
+        if (!well_formed(x, v)) {
+            out[0] = BROKEN_SLOT;
+            return;
+        }
+    for (int64_t *x = table; x < table + words; x += SLOT_WORDS) put_row_back(x, v);
+    record[1] = 0;
+    out[1] = v.current;
+}
+
 static int64_t block_refusal(size_t words, Version v, size_t number) {
     if (bad_table(words)) return BAD_TABLE;
     if (bad_version(v)) return BAD_RECORD;

@@ -9,6 +9,7 @@ void hand_read_key(const int64_t *table, size_t words, const int64_t record[4], 
 void hand_roll_up(const int64_t *table, size_t words, const int64_t record[4], int64_t session, int64_t one, int64_t out[8]);
 void hand_put(int64_t *table, size_t words, const int64_t record[4], int64_t one, int64_t two, int64_t first, int64_t second, int64_t out[8]);
 void hand_delete(int64_t *table, size_t words, const int64_t record[4], int64_t one, int64_t two, int64_t out[8]);
+void hand_roll_back(int64_t *table, size_t words, int64_t record[4], int64_t out[8]);
 void hand_save_block(const int64_t *table, size_t words, const int64_t record[4], size_t number, uint8_t block[512], int64_t out[8]);
 void hand_load_block(int64_t *table, size_t words, const int64_t record[4], size_t number, const uint8_t *block, size_t bytes, int64_t out[8]);
 

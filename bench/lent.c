@@ -81,6 +81,15 @@ void fill(Kind which, size_t count) {
     lend(0);
 }
 
+void change_in_run(void) {
+    for (size_t t = 0; t < tables_in_turn; t++)
+        for (size_t k = 0; k < slots; k += RUN_EVERY) put_used(&places[t], k, CURRENT + 1, INSERT + (int64_t)(k / RUN_EVERY % DELETE));
+}
+
+void put_run_back(void) {
+    for (size_t from = 0; from < words; from += RUN_EVERY * SLOT_WORDS) memmove(at->table + from, at->kept + from, SLOT_WORDS * sizeof(int64_t));
+}
+
 // The numbers of the rows, in order or shuffled: from the last down each changes places with one that is not above it.
 static void draw_order(size_t *order, int shuffled) {
     for (size_t k = 0; k < slots; k++) order[k] = k;

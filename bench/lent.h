@@ -14,6 +14,9 @@ enum { SLOT_KEY_ONE = 2, SLOT_KEY_TWO = 3, SLOT_TOTALS = 4, SLOT_OLD_TOTALS = 6 
 enum { SLOT_WORDS = 8, MOST_SLOTS = 1024, MOST_WORDS = MOST_SLOTS * SLOT_WORDS, BLOCK_BYTES = 512, OUT_WORDS = 8 };
 enum { GROUPS = 8, TABLES = 16, CURRENT = 4, NEW_FIRST = 1, NEW_SECOND = 2 };
 
+// One slot in so many is of the run, where one has changed the tables.
+enum { RUN_EVERY = 8 };
+
 typedef enum { UNIFORM, MIXED, DATED } Kind;
 
 typedef void Body(void);
@@ -36,6 +39,12 @@ void fill(Kind which, size_t count);
 // Makes a dated table with so many slots and lends it: the row k has the key (k / dates, k % dates), so all keys differ. The rows
 // stand in that order, in which the dates take turns, or in a random one.
 void fill_dated(size_t count, size_t dates, int shuffled);
+
+// A run has changed one slot in RUN_EVERY of each table, from the first on: by turns it inserted, updated and deleted the row.
+void change_in_run(void);
+
+// Puts the slots of the run as they were kept.
+void put_run_back(void);
 
 // Gives the words of a slot to a table and to what is kept of it.
 void put_row(const Lent *to, size_t slot, const int64_t row[SLOT_WORDS]);
