@@ -1,11 +1,6 @@
 -- `versions::is_plainly_running`: each test of the code is what a sound record is (`Sound`) in a run. Assumes nothing.
-use mathlib.Core.Path.{refl}
-use mathlib.Core.List.{[], ◌∷◌}
-use lib.IntN.{pos}
-use lib.Signed.{le_z, lt_z}
-use mir.Syntax.{w64}
-use mir.Val.{SFits}
-use borrow.Author.Rules.{rules}
+use Rattle.std.proofs.Common.{rules, refl, [], ◌∷◌, w64, SFits, pos}
+use Rattle.std.specs.Int.Signed.{le_z, lt_z}
 use Rattle.laws.specs.Tests.{all}
 use Rattle.laws.specs.TestLaws.{all-at}
 use Rattle.laws.specs.OrderLaws.{eq_z_true}
@@ -13,14 +8,12 @@ use Rattle.laws.specs.Order.{eq_z}
 use Rattle.laws.specs.Bits.{plain, eq_bits}
 use Rattle.versions.specs.Record.{largest_version}
 use Rattle.versions.specs.RecordLaws.{below, known}
-use Rattle.versions.proofs.is_plainly_running.Statement.{statement}
-use Rattle.versions.proofs.is_plainly_running.Tie as tie
+use Rattle.versions.proofs.is_plainly_running.Goals as goal
 
-returns : tie.Need-returns
+pub returns : goal.returns
 unfolding all
 returns c h =
-    let active = c.before.before in
-    let v = active.before.before.args.versions in
+    let v = c.args.versions in
     let now : SFits w64 v.current = search rules in
     let oldest : SFits w64 v.oldest = search rules in
     let tests = le_z (pos 1) v.current ∷ lt_z v.current largest_version ∷ v.active ∷ eq_z v.oldest v.current ∷ [] in
@@ -39,6 +32,3 @@ returns c h =
       });
       active = all-at tests 2 yes;
     }
-
-pub is_plainly_running_spec : {M : Type 1} → statement M
-is_plainly_running_spec = tie.close (tie.spec returns)
