@@ -17,7 +17,7 @@ use versions::VersionRecord;
 pub const BLOCK_BYTES: usize = 512;
 
 // What load header answers: slots, current and the oldest open version, or a refusal.
-#[derive(Drop)]
+#[derive(Clone, Copy)]
 pub enum Header {
     Holds {
         slots: u32,
@@ -28,7 +28,7 @@ pub enum Header {
 }
 
 // What load block answers: that it is done, or a refusal.
-#[derive(Drop)]
+#[derive(Clone, Copy)]
 pub enum Loaded {
     Done,
     Refused(u32),

@@ -21,9 +21,9 @@ const FILLER_WORDS: usize = 14;
 // Whether a slot of a block is not well formed or, where it is beyond the table, not zero.
 fn slot_wrong(table: &[i64], versions: VersionRecord, number: usize, block: &[u8], j: usize) -> bool
     requires within { Within table.now number }
-    requires versions_value { bad_record versions ≡ false }
-    requires block_len { length block.now ≡ block_bytes }
-    requires j_lt_block_slots { j < block_slots }
+    requires lawful_record { bad_record versions ≡ false }
+    requires whole_block { length block.now ≡ block_bytes }
+    requires within_block { j < block_slots }
     ensures { result ≡ slot_wrong table.now versions number block.now j }
 {
     let x = longs::slot_of(block, j);
@@ -36,8 +36,8 @@ fn slot_wrong(table: &[i64], versions: VersionRecord, number: usize, block: &[u8
 // Whether some slot of a block is.
 fn some_slot_wrong(table: &[i64], versions: VersionRecord, number: usize, block: &[u8]) -> bool
     requires within { Within table.now number }
-    requires versions_value { bad_record versions ≡ false }
-    requires block_len { length block.now ≡ block_bytes }
+    requires lawful_record { bad_record versions ≡ false }
+    requires whole_block { length block.now ≡ block_bytes }
     ensures { result ≡ some (slot_wrong table.now versions number block.now) block_slots }
 {
     let mut tested: usize = 0;
@@ -53,8 +53,8 @@ fn some_slot_wrong(table: &[i64], versions: VersionRecord, number: usize, block:
 // Refusal 16 of a block of slots.
 pub fn slot_block_wrong(table: &[i64], versions: VersionRecord, number: usize, block: &[u8]) -> bool
     requires within { Within table.now number }
-    requires versions_value { bad_record versions ≡ false }
-    requires block_len { length block.now ≡ block_bytes }
+    requires lawful_record { bad_record versions ≡ false }
+    requires whole_block { length block.now ≡ block_bytes }
     ensures { result ≡ slot_block_wrong table.now versions number block.now }
 {
     let stored = blocks_words::word_at(block, blocks_words::NUMBER_PLACE) as usize;
@@ -66,8 +66,8 @@ pub fn slot_block_wrong(table: &[i64], versions: VersionRecord, number: usize, b
 // A slot of a block written to the table, if it is not beyond it.
 fn load_slot(table: &mut [i64], number: usize, block: &[u8], j: usize)
     requires within { Within table.old number }
-    requires block_len { length block.now ≡ block_bytes }
-    requires j_lt_block_slots { j < block_slots }
+    requires whole_block { length block.now ≡ block_bytes }
+    requires within_block { j < block_slots }
     ensures { table.new ≡ slot_loaded table.old number block.now j }
 {
     let place = BLOCK_SLOTS * (number - 1) + j;
@@ -81,7 +81,7 @@ fn load_slot(table: &mut [i64], number: usize, block: &[u8], j: usize)
 // The slots of a block written to the table.
 pub fn load_slots(table: &mut [i64], number: usize, block: &[u8])
     requires within { Within table.old number }
-    requires block_len { length block.now ≡ block_bytes }
+    requires whole_block { length block.now ≡ block_bytes }
     ensures { table.new ≡ loaded_to table.old number block.now block_slots }
 {
     let mut written: usize = 0;

@@ -41,7 +41,7 @@ pub fn no_such_block(table: &[i64], number: usize) -> bool
 // A block of slots, each read, tested (refusal 6) and written in turn.
 pub fn save_slots(table: &[i64], versions: VersionRecord, number: usize) -> Saved
     requires within { Within table.now number }
-    requires versions_value { bad_record versions ≡ false }
+    requires lawful_record { bad_record versions ≡ false }
     ensures { Hands result (first (slot_tests table.now versions number)) (slot_block_words table.now number) }
 {
     let from = BLOCK_SLOTS * (number - 1);

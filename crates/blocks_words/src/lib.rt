@@ -34,8 +34,8 @@ fn low_byte(word: u32) -> u8
 
 // The word at a place.
 pub fn word_at(block: &[u8], i: usize) -> u32
-    requires block_len { length block.now ≡ block_bytes }
-    requires i_le_check_place { i ≤ check_place }
+    requires whole_block { length block.now ≡ block_bytes }
+    requires within_block { i ≤ check_place }
     ensures { result ≡ word_at block.now i }
 {
     let at = i * WORD_BYTES;
@@ -94,8 +94,8 @@ pub fn check_wrong(block: &[u8]) -> bool
 
 // Whether some word of so many from a place is not zero.
 pub fn is_nonzero(block: &[u8], from: usize, count: usize) -> bool
-    requires block_len { length block.now ≡ block_bytes }
-    requires count_bound { from + count ≤ check_place }
+    requires whole_block { length block.now ≡ block_bytes }
+    requires before_check { from + count ≤ check_place }
     ensures { result ≡ nonzero block.now from count }
 {
     let mut i: usize = 0;

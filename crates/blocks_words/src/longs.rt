@@ -75,8 +75,8 @@ fn wide_half(word: u32) -> u64
 
 // The signed word of the halves at a place.
 fn long_at(block: &[u8], i: usize) -> i64
-    requires block_len { length block.now ≡ block_bytes }
-    requires i_lt_check_place { i < check_place }
+    requires whole_block { length block.now ≡ block_bytes }
+    requires before_check { i < check_place }
     ensures { result ≡ long_at block.now i }
 {
     let first = wide_half(crate::word_at(block, i));
@@ -86,8 +86,8 @@ fn long_at(block: &[u8], i: usize) -> i64
 
 // The slot at a place of a block.
 pub fn slot_of(block: &[u8], j: usize) -> Slot
-    requires block_len { length block.now ≡ block_bytes }
-    requires j_lt_block_slots { j < block_slots }
+    requires whole_block { length block.now ≡ block_bytes }
+    requires within_block { j < block_slots }
     ensures { result ≡ block_slot block.now j }
 {
     let at = j * SLOT_HALVES;

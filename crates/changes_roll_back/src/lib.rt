@@ -46,9 +46,9 @@ fn rolled_back(x: Slot, versions: VersionRecord) -> Slot
 
 // The slot at a place put back. One of another run is not written.
 fn put_slot_back(table: &mut [i64], k: usize, versions: VersionRecord)
-    requires table_value { bad_table table.old ≡ false }
-    requires k_bound { k < slots table.old }
-    requires versions_value { bad_record versions ≡ false }
+    requires lawful_table { bad_table table.old ≡ false }
+    requires in_table { k < slots table.old }
+    requires lawful_record { bad_record versions ≡ false }
     ensures { table.new ≡ put_slot table.old k (rolled_back versions (slot_at table.old k)) }
 {
     let run = table[k * SLOT_WORDS + RUN];
@@ -61,8 +61,8 @@ fn put_slot_back(table: &mut [i64], k: usize, versions: VersionRecord)
 
 // Every slot put back.
 fn put_back(table: &mut [i64], versions: VersionRecord)
-    requires table_value { bad_table table.old ≡ false }
-    requires versions_value { bad_record versions ≡ false }
+    requires lawful_table { bad_table table.old ≡ false }
+    requires lawful_record { bad_record versions ≡ false }
     ensures { table.new ≡ slots_back table.old versions (slots table.old) }
 {
     let slots = table::slots_of(table);

@@ -17,7 +17,7 @@ use table::Slot;
 use versions::VersionRecord;
 
 // What a change answers: the slot that it wrote, or a refusal.
-#[derive(Drop)]
+#[derive(Clone, Copy)]
 pub enum Placed {
     InSlot(usize),
     Refused(u32),
@@ -32,8 +32,8 @@ const TABLE_4: [u8; 8] = [NEVER, REMOVE, REMOVE, NEVER, NEVER, ERASE, MARK, NEVE
 
 // A slot is written at a place, which is the answer.
 fn place(table: &mut [i64], k: usize, x: Slot) -> Placed
-    requires table_value { bad_table table.old ≡ false }
-    requires k_bound { k < slots table.old }
+    requires lawful_table { bad_table table.old ≡ false }
+    requires in_table { k < slots table.old }
     ensures { Leaves 0 table.old k x result table.new }
 {
     table::put_slot(table, k, x);
@@ -68,9 +68,9 @@ fn put_found(
     total1: i64,
     total2: i64,
 ) -> Placed
-    requires table_value { bad_table table.old ≡ false }
-    requires versions_value { bad_record versions ≡ false }
-    requires k_bound { k < slots table.old }
+    requires lawful_table { bad_table table.old ≡ false }
+    requires lawful_record { bad_record versions ≡ false }
+    requires in_table { k < slots table.old }
     ensures { PutAt table.old versions (found_tests table.old versions k) k (slot_at table.old k) key1 key2 total1 total2 result table.new }
 {
     let x = table::slot_at(table, k);
@@ -89,8 +89,8 @@ fn put_new(
     total1: i64,
     total2: i64,
 ) -> Placed
-    requires table_value { bad_table table.old ≡ false }
-    requires versions_value { bad_record versions ≡ false }
+    requires lawful_table { bad_table table.old ≡ false }
+    requires lawful_record { bad_record versions ≡ false }
     ensures { PutAt table.old versions (new_tests table.old versions) (free_slot table.old versions) empty key1 key2 total1 total2 result table.new }
 {
     let k = table_free::free_slot(table, versions);
@@ -113,8 +113,8 @@ pub fn put_row(
     total1: i64,
     total2: i64,
 ) -> Placed
-    requires table_value { bad_table table.old ≡ false }
-    requires versions_value { bad_record versions ≡ false }
+    requires lawful_table { bad_table table.old ≡ false }
+    requires lawful_record { bad_record versions ≡ false }
     ensures { RowPut table.old versions key1 key2 total1 total2 result table.new }
 {
     let k = table_keys::key_slot(table, key1, key2);
@@ -126,8 +126,8 @@ pub fn put_row(
 
 // A delete past 8: 6, 11, and the write by Table 4. It gives no totals.
 pub fn delete_row(table: &mut [i64], versions: VersionRecord, key1: i64, key2: i64) -> Placed
-    requires table_value { bad_table table.old ≡ false }
-    requires versions_value { bad_record versions ≡ false }
+    requires lawful_table { bad_table table.old ≡ false }
+    requires lawful_record { bad_record versions ≡ false }
     ensures { RowDeleted table.old versions key1 key2 result table.new }
 {
     let k = table_keys::key_slot(table, key1, key2);

@@ -16,7 +16,7 @@ use table::Slot;
 use versions::VersionRecord;
 
 // What a slot or a key read answers: a row, as its two key words and two totals; no row; or a refusal.
-#[derive(Drop)]
+#[derive(Clone, Copy)]
 pub enum Seen {
     Row {
         key1: i64,

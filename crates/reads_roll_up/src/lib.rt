@@ -14,7 +14,7 @@ use table_forms::{DELETE, UPDATE};
 use versions::VersionRecord;
 
 // What a roll-up answers: the count of rows, how many of them reported each total, and the sums of what they reported; or a refusal.
-#[derive(Drop)]
+#[derive(Clone, Copy)]
 pub enum Rolled {
     Sums {
         rows: u32,
@@ -27,14 +27,14 @@ pub enum Rolled {
 }
 
 // Of a total: how many rows reported it so far, and the sum of what they reported.
-#[derive(Drop)]
+#[derive(Clone, Copy)]
 pub struct Reported {
     pub rows: u32,
     pub sum: i64,
 }
 
 // The count of rows so far, and what they reported of each total.
-#[derive(Drop)]
+#[derive(Clone, Copy)]
 pub struct Tally {
     pub rows: u32,
     pub total1: Reported,
@@ -43,7 +43,7 @@ pub struct Tally {
 
 // What was reported of a total, with a total more.
 fn with_total(earlier: Reported, total: i64) -> Reported
-    requires total_value { lawful total ≡ true }
+    requires lawful_total { lawful total ≡ true }
     requires within { Within (most_slots - 1) earlier }
     ensures { result ≡ with_total total earlier }
 {
@@ -74,8 +74,8 @@ fn count_row(tally: Tally, total1: i64, total2: i64) -> Tally
 // The tally with what a session sees of the slot at a place: a row with that first key word counts. Table 1 is asked by comparison
 // here, and here alone: an indexed table is copied to the stack in each turn of a loop.
 fn tally_slot(tally: Tally, table: &[i64], k: usize, session: i64, key1: i64) -> Tally
-    requires table_value { bad_table table.now ≡ false }
-    requires k_bound { k < slots table.now }
+    requires lawful_table { bad_table table.now ≡ false }
+    requires in_table { k < slots table.now }
     requires lawful_row { LawfulRow (shown session (slot_at table.now k)) }
     requires bounded { Bounded (most_slots - 1) tally }
     ensures { result ≡ tallied key1 (shown session (slot_at table.now k)) tally }

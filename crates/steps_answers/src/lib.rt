@@ -9,7 +9,7 @@ use reader::{Placed, Seen, Turned, VersionRecord};
 use steps_commands::Command;
 
 // What a line leaves: the record, and the place after the reply in the buffer.
-#[derive(Drop)]
+#[derive(Clone, Copy)]
 pub struct Turn {
     pub versions: VersionRecord,
     pub place: usize,

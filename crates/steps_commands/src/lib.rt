@@ -29,14 +29,14 @@ const MOST_DIGITS: usize = 19;
 const SIGNED_LIMIT: u64 = 9_223_372_036_854_775_808;
 
 // A number of a line, or what is none.
-#[derive(Drop)]
+#[derive(Clone, Copy)]
 pub enum Number {
     Is(i64),
     Bad,
 }
 
 // What a line asks.
-#[derive(Drop)]
+#[derive(Clone, Copy)]
 pub enum Command {
     Begin,
     Commit,
@@ -59,33 +59,33 @@ pub enum Command {
 }
 
 // What digits make, if they are 1 to 19.
-#[derive(Drop)]
+#[derive(Clone, Copy)]
 enum Digits {
     Make(u64),
     Bad,
 }
 
 // The number of a field that a space follows, and the place after that space.
-#[derive(Drop)]
+#[derive(Clone, Copy)]
 enum First {
     Number(i64, usize),
     Bad,
 }
 
 // So many numbers and no more.
-#[derive(Drop)]
+#[derive(Clone, Copy)]
 enum Two {
     Are(i64, i64),
     Bad,
 }
 
-#[derive(Drop)]
+#[derive(Clone, Copy)]
 enum Three {
     Are(i64, i64, i64),
     Bad,
 }
 
-#[derive(Drop)]
+#[derive(Clone, Copy)]
 enum Four {
     Are(i64, i64, i64, i64),
     Bad,

@@ -18,7 +18,7 @@ use steps_lines::Progress;
 const TABLE_WORDS: usize = 64;
 
 // What stands between two reads, how many bytes the last one gave, and whether all that was written was taken.
-#[derive(Drop)]
+#[derive(Clone, Copy)]
 struct Step {
     progress: Progress,
     got: usize,
@@ -26,7 +26,7 @@ struct Step {
 }
 
 // What a part of a read's bytes leaves: what then stands, how many of them were answered, and whether all replies were taken.
-#[derive(Drop)]
+#[derive(Clone, Copy)]
 struct Part {
     progress: Progress,
     count: usize,
@@ -50,8 +50,8 @@ fn take_part(
 ) -> Part
     requires { Ready progress line.old buffer.old }
     ensures ready { Ready result.progress line.new buffer.new }
-    ensures count_in_bounds { result.count ≤ length input.now }
-    ensures count_nonzero { 0 < length input.now → 0 < result.count }
+    ensures within_input { result.count ≤ length input.now }
+    ensures some_taken { 0 < length input.now → 0 < result.count }
     ensures carried { Carried table.old line.old buffer.old progress (take result.count input.now) table.new line.new buffer.new result.progress }
 {
     let some = steps_lines::take_bytes(table, line, buffer, progress, input);
@@ -163,8 +163,8 @@ fn take_last(table: &mut [i64], line: &[u8], buffer: &mut [u8], step: Step)
 
 // All lines, over what is lent.
 fn answer_all(table: &mut [i64], line: &mut [u8], buffer: &mut [u8], input: &mut [u8])
-    requires line_len { length line.old ≡ line_bytes }
-    requires longest_line_in_bounds { longest_line ≤ length buffer.old }
+    requires whole_line { length line.old ≡ line_bytes }
+    requires room_for_a_line { longest_line ≤ length buffer.old }
     ensures { CarriedAll table.old table.new }
 {
     let all = take_all(table, line, buffer, input, Progress::fresh());

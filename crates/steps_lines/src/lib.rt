@@ -13,7 +13,7 @@ use reader::VersionRecord;
 pub const LINE_BYTES: usize = steps_commands::LONGEST_COMMAND + 1;
 
 // What stands between two bytes: the record, how many bytes of the line are kept, and how many of the buffer are replies.
-#[derive(Drop)]
+#[derive(Clone, Copy)]
 pub struct Progress {
     pub versions: VersionRecord,
     pub kept: usize,
@@ -23,7 +23,7 @@ pub struct Progress {
 impl Progress {
     // Before the first byte.
     pub fn fresh() -> Self
-        ensures kept_value { (result.kept ≡ 0) × (result.place ≡ 0) }
+        ensures fresh { (result.kept ≡ 0) × (result.place ≡ 0) }
         ensures stands_for { (t : List ℤ) (l b : List ℕ) → StandsFor (fresh_session t) t l b result }
     {
         Progress {
@@ -35,7 +35,7 @@ impl Progress {
 }
 
 // What a run of bytes leaves: what then stands, and how many of the bytes were taken.
-#[derive(Drop)]
+#[derive(Clone, Copy)]
 pub struct Taken {
     pub progress: Progress,
     pub count: usize,
@@ -43,9 +43,9 @@ pub struct Taken {
 
 // A byte of a line is kept where there is room for it.
 fn keep_byte(line: &mut [u8], kept: usize, byte: u8) -> usize
-    requires line_len { length line.old ≡ line_bytes }
-    requires kept_le_line_bytes { kept ≤ line_bytes }
-    ensures upper_bound { result ≤ line_bytes }
+    requires whole_line { length line.old ≡ line_bytes }
+    requires within_line { kept ≤ line_bytes }
+    ensures within_line { result ≤ line_bytes }
     ensures by_index { (l : List ℕ) → take kept line.old ≡ take line_bytes l → take result line.new ≡ take line_bytes (l ++ (byte ∷ [])) }
 {
     if kept >= LINE_BYTES {
@@ -58,8 +58,8 @@ fn keep_byte(line: &mut [u8], kept: usize, byte: u8) -> usize
 // The line is answered, and the next begins.
 fn end_line(table: &mut [i64], line: &[u8], buffer: &mut [u8], progress: Progress) -> Progress
     requires sound_progress { SoundProgress progress line.now buffer.old }
-    requires longest_line_in_bounds { progress.place + longest_line ≤ length buffer.old }
-    ensures sound_progress_2 { SoundProgress result line.now buffer.new }
+    requires room_for_a_line { progress.place + longest_line ≤ length buffer.old }
+    ensures sound_after { SoundProgress result line.now buffer.new }
     ensures stands_for { (s : LineSession) → StandsFor s table.old line.now buffer.old progress → StandsFor (ended s) table.new line.now buffer.new result }
 {
     let before = progress.versions;
@@ -76,8 +76,8 @@ fn end_line(table: &mut [i64], line: &[u8], buffer: &mut [u8], progress: Progres
 // The last line needs no newline.
 pub fn end_last(table: &mut [i64], line: &[u8], buffer: &mut [u8], progress: Progress) -> Progress
     requires sound_progress { SoundProgress progress line.now buffer.old }
-    requires longest_line_in_bounds { progress.place + longest_line ≤ length buffer.old }
-    ensures sound_progress_2 { SoundProgress result line.now buffer.new }
+    requires room_for_a_line { progress.place + longest_line ≤ length buffer.old }
+    ensures sound_after { SoundProgress result line.now buffer.new }
     ensures stands_for { (s : LineSession) → StandsFor s table.old line.now buffer.old progress → StandsFor (finished s) table.new line.now buffer.new result }
 {
     if progress.kept > 0 {
@@ -95,8 +95,8 @@ fn take_byte(
     byte: u8,
 ) -> Progress
     requires sound_progress { SoundProgress progress line.old buffer.old }
-    requires longest_line_in_bounds { progress.place + longest_line ≤ length buffer.old }
-    ensures sound_progress_2 { SoundProgress result line.new buffer.new }
+    requires room_for_a_line { progress.place + longest_line ≤ length buffer.old }
+    ensures sound_after { SoundProgress result line.new buffer.new }
     ensures stands_for { (s : LineSession) → StandsFor s table.old line.old buffer.old progress → StandsFor (after_byte s byte) table.new line.new buffer.new result }
 {
     if byte == steps_replies::NEWLINE {
@@ -115,10 +115,10 @@ pub fn take_bytes(
     input: &[u8],
 ) -> Taken
     requires sound_progress { SoundProgress progress line.old buffer.old }
-    requires longest_line_in_bounds { progress.place + longest_line ≤ length buffer.old }
-    ensures sound_progress_2 { SoundProgress result.progress line.new buffer.new }
-    ensures count_in_bounds { result.count ≤ length input.now }
-    ensures count_nonzero { 0 < length input.now → 0 < result.count }
+    requires room_for_a_line { progress.place + longest_line ≤ length buffer.old }
+    ensures sound_after { SoundProgress result.progress line.new buffer.new }
+    ensures within_input { result.count ≤ length input.now }
+    ensures some_taken { 0 < length input.now → 0 < result.count }
     ensures stands_for { (s : LineSession) → StandsFor s table.old line.old buffer.old progress → StandsFor (after_bytes s (take result.count input.now)) table.new line.new buffer.new result.progress }
 {
     let mut i: usize = 0;

@@ -29,7 +29,7 @@ pub const OLD1: usize = 6;
 
 pub const OLD2: usize = 7;
 
-#[derive(Drop)]
+#[derive(Clone, Copy)]
 pub struct Slot {
     pub run: i64,
     pub operation: i64,
@@ -95,8 +95,8 @@ pub fn slot_at(table: &[i64], k: usize) -> Slot
 
 // The slot written at a place. A store takes a whole local, so the words have one each first.
 pub fn put_slot(table: &mut [i64], k: usize, x: Slot)
-    requires table_value { bad_table table.old ≡ false }
-    requires k_bound { k < slots table.old }
+    requires lawful_table { bad_table table.old ≡ false }
+    requires in_table { k < slots table.old }
     ensures { table.new ≡ put_slot table.old k x }
 {
     let at = k * SLOT_WORDS;

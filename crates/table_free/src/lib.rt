@@ -32,9 +32,9 @@ fn is_free(x: Slot, versions: VersionRecord) -> bool
 
 // Whether the slot at a place is free. A live one is told by its operation word alone.
 fn free_at(table: &[i64], k: usize, versions: VersionRecord) -> bool
-    requires table_value { bad_table table.now ≡ false }
-    requires k_bound { k < slots table.now }
-    requires versions_value { bad_record versions ≡ false }
+    requires lawful_table { bad_table table.now ≡ false }
+    requires in_table { k < slots table.now }
+    requires lawful_record { bad_record versions ≡ false }
     ensures { result ≡ free (slot_at table.now k) versions }
 {
     if table_forms::lives(table[k * SLOT_WORDS + OPERATION]) {
@@ -45,8 +45,8 @@ fn free_at(table: &[i64], k: usize, versions: VersionRecord) -> bool
 
 // Whether all of the four slots from a place on are live.
 fn four_live(table: &[i64], k: usize) -> bool
-    requires table_value { bad_table table.now ≡ false }
-    requires k_bound { k + 4 ≤ slots table.now }
+    requires lawful_table { bad_table table.now ≡ false }
+    requires in_table { k + 4 ≤ slots table.now }
     ensures { result ≡ true → FourLive table.now k }
 {
     let at = k * SLOT_WORDS;
@@ -58,9 +58,9 @@ fn four_live(table: &[i64], k: usize) -> bool
 
 // The lowest free slot below an end, or the end, looked for from a place on below which none is free.
 fn free_from(table: &[i64], from: usize, to: usize, versions: VersionRecord) -> usize
-    requires table_value { bad_table table.now ≡ false }
-    requires to_bound { to ≤ slots table.now }
-    requires versions_value { bad_record versions ≡ false }
+    requires lawful_table { bad_table table.now ≡ false }
+    requires in_table { to ≤ slots table.now }
+    requires lawful_record { bad_record versions ≡ false }
     requires taken { Taken table.now from versions }
     ensures { Lowest (λ k. free (slot_at table.now k) versions) to result }
 {
@@ -76,8 +76,8 @@ fn free_from(table: &[i64], from: usize, to: usize, versions: VersionRecord) -> 
 
 // The number of the lowest free slot; the number of slots where none is free.
 pub fn free_slot(table: &[i64], versions: VersionRecord) -> usize
-    requires table_value { bad_table table.now ≡ false }
-    requires versions_value { bad_record versions ≡ false }
+    requires lawful_table { bad_table table.now ≡ false }
+    requires lawful_record { bad_record versions ≡ false }
     ensures { result ≡ free_slot table.now versions }
 {
     let slots = table::slots_of(table);

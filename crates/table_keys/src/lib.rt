@@ -17,7 +17,7 @@ use table::{KEY1, KEY2, OPERATION, SLOT_WORDS};
 const NEAR_SLOTS: usize = 16;
 
 // A word of a slot that is compared: its place in the slot, and the number that is looked for.
-#[derive(Drop)]
+#[derive(Clone, Copy)]
 struct KeyWord {
     place: usize,
     number: i64,
@@ -25,8 +25,8 @@ struct KeyWord {
 
 // Whether the slot at a place is used and has the key. The second key word is asked first: it tells most slots apart.
 fn has_key(table: &[i64], k: usize, key1: i64, key2: i64) -> bool
-    requires table_value { bad_table table.now ≡ false }
-    requires k_bound { k < slots table.now }
+    requires lawful_table { bad_table table.now ≡ false }
+    requires in_table { k < slots table.now }
     ensures { result ≡ has_key (slot_at table.now k) key1 key2 }
 {
     let at = k * SLOT_WORDS;
@@ -60,9 +60,9 @@ fn other_word(compared: KeyWord, key1: i64, key2: i64) -> KeyWord
 
 // Whether none of the four slots from a place on has the key word that is compared.
 fn four_apart(table: &[i64], k: usize, compared: KeyWord) -> bool
-    requires table_value { bad_table table.now ≡ false }
-    requires k_bound { k + 4 ≤ slots table.now }
-    requires place_lt_slot_words { compared.place < slot_words }
+    requires lawful_table { bad_table table.now ≡ false }
+    requires in_table { k + 4 ≤ slots table.now }
+    requires within_slot { compared.place < slot_words }
     ensures { result ≡ true → FourApart table.now k compared }
 {
     let at = k * SLOT_WORDS + compared.place;
@@ -75,8 +75,8 @@ fn four_apart(table: &[i64], k: usize, compared: KeyWord) -> bool
 
 // The lowest slot below an end that has the key, or the end, looked for from a place on below which none has it.
 fn key_from(table: &[i64], from: usize, to: usize, key1: i64, key2: i64) -> usize
-    requires table_value { bad_table table.now ≡ false }
-    requires to_bound { to ≤ slots table.now }
+    requires lawful_table { bad_table table.now ≡ false }
+    requires in_table { to ≤ slots table.now }
     requires keyless { Keyless table.now from key1 key2 }
     ensures { Lowest (λ k. has_key (slot_at table.now k) key1 key2) to result }
 {
@@ -92,7 +92,7 @@ fn key_from(table: &[i64], from: usize, to: usize, key1: i64, key2: i64) -> usiz
 
 // The number of the key's slot where the first slot has not the key: four slots at a time, beginning with the key word given.
 fn key_far(table: &[i64], word: KeyWord, key1: i64, key2: i64) -> usize
-    requires table_value { bad_table table.now ≡ false }
+    requires lawful_table { bad_table table.now ≡ false }
     requires key_word { IsKeyWord word key1 key2 }
     requires keyless { Keyless table.now 1 key1 key2 }
     ensures { result ≡ key_slot table.now key1 key2 }

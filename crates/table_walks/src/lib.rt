@@ -16,10 +16,10 @@ use versions::VersionRecord;
 // Used well, of the slot at a place whose operation is 1 to 3. Words are read where they are asked for, and the totals are asked of in
 // one expression, so that the compiler keeps few words at once and makes fused branches.
 fn used_well_at(table: &[i64], k: usize, versions: VersionRecord) -> bool
-    requires table_value { bad_table table.now ≡ false }
-    requires k_bound { k < slots table.now }
-    requires versions_value { bad_record versions ≡ false }
-    requires k_value { from_to insert_operation delete_operation (slot_at table.now k).operation ≡ true }
+    requires lawful_table { bad_table table.now ≡ false }
+    requires in_table { k < slots table.now }
+    requires lawful_record { bad_record versions ≡ false }
+    requires used { from_to insert_operation delete_operation (slot_at table.now k).operation ≡ true }
     ensures { result ≡ used_well (slot_at table.now k) versions }
 {
     let at = k * SLOT_WORDS;
@@ -39,9 +39,9 @@ fn used_well_at(table: &[i64], k: usize, versions: VersionRecord) -> bool
 
 // Refusal 6, of the slot at a place.
 pub fn is_broken_at(table: &[i64], k: usize, versions: VersionRecord) -> bool
-    requires table_value { bad_table table.now ≡ false }
-    requires k_bound { k < slots table.now }
-    requires versions_value { bad_record versions ≡ false }
+    requires lawful_table { bad_table table.now ≡ false }
+    requires in_table { k < slots table.now }
+    requires lawful_record { bad_record versions ≡ false }
     ensures { result ≡ broken (slot_at table.now k) versions }
 {
     let operation = table[k * SLOT_WORDS + OPERATION];
@@ -53,8 +53,8 @@ pub fn is_broken_at(table: &[i64], k: usize, versions: VersionRecord) -> bool
 
 // Refusal 6, where the call rests on any slot: the pass stops at the first that is broken.
 pub fn any_broken(table: &[i64], versions: VersionRecord) -> bool
-    requires table_value { bad_table table.now ≡ false }
-    requires versions_value { bad_record versions ≡ false }
+    requires lawful_table { bad_table table.now ≡ false }
+    requires lawful_record { bad_record versions ≡ false }
     ensures { result ≡ any_broken table.now versions }
 {
     let slots = table::slots_of(table);

@@ -7,14 +7,14 @@ ghost use Rattle.versions_runs.specs.Runs.{OpenContract, kept_as, leaving, Begin
 use versions::VersionRecord;
 
 // What open, begin, commit and roll back answer: the number of a version, or a refusal.
-#[derive(Drop)]
+#[derive(Clone, Copy)]
 pub enum Numbered {
     Version(i64),
     Refused(u32),
 }
 
 // What begin, commit and roll back leave: their answer, and the record.
-#[derive(Drop)]
+#[derive(Clone, Copy)]
 pub struct Turned {
     pub answer: Numbered,
     pub versions: VersionRecord,
