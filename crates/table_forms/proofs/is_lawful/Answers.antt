@@ -2,11 +2,7 @@
 -- comparisons are about. Assumes nothing.
 use Rattle.laws.specs.Bits.{plain}
 use Rattle.table_forms.specs.TotalLaws.{lawful_range}
-use Rattle.table_forms.proofs.is_lawful.Statement.{statement}
-use Rattle.table_forms.proofs.is_lawful.Tie as tie
+use Rattle.table_forms.proofs.is_lawful.Goals as goal
 
-returns : tie.Need-returns
+pub returns : goal.returns
 returns c = simp (plain _ c.ranges.total, lawful_range)
-
-pub is_lawful_spec : {M : Type 1} → statement M
-is_lawful_spec = tie.close (tie.spec returns)
