@@ -10,7 +10,7 @@ use Rattle.table.specs.Slots.{empty}
 use Rattle.table_forms.specs.Operations.{live}
 use Rattle.table_forms.specs.OperationLaws.{live_insert, live_update}
 use Rattle.changes_cells.specs.Tables.{new_insert, saved, removed, put_over, deleted}
-use Rattle.changes_cells.specs.TableLaws.{put_deleted_same, put_live_older, put_live_same, deleted_older, deleted_insert}
+use Rattle.changes_cells.proofs.TableLaws.{put_deleted_same, put_live_older, put_live_same, deleted_older, deleted_insert}
 
 module _ (m key1 key2 : ℤ) where
   -- a slot of run m is not of an older run
