@@ -33,6 +33,7 @@ fn low_byte(word: u32) -> u8
 }
 
 // The word at a place.
+#[tactic(auto, unfolding(crate::specs::Words::word_at))]
 pub fn word_at(block: &[u8], i: usize) -> u32
     requires whole_block { length block.now ≡ block_bytes }
     requires within_block { i ≤ check_place }
@@ -85,6 +86,7 @@ fn total_words(block: &[u8]) -> u32
 }
 
 // Refusal 15.
+#[tactic(auto, unfolding(crate::specs::Words::check_wrong))]
 pub fn check_wrong(block: &[u8]) -> bool
     requires { length block.now ≡ block_bytes }
     ensures { result ≡ check_wrong block.now }

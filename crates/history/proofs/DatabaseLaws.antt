@@ -1,7 +1,7 @@
 -- Databases in another order: a permutation of rows holds the same keys, and where no key stands twice it finds the same rows,
 -- rolls up to the same counts and sums, and loses the same row. Each goes by the permutation; a step on one or two rows goes by
 -- the tests on them alone. And the roll-up of a database is what the library's tally of its rows comes to. Assumes nothing.
-use mathlib.Core.Path.{◌≡◌, refl, sym, ap, ap₂, ◌∙◌}
+use mathlib.Core.Path.{◌≡◌, refl, sym, ap, ap₂, subst, ◌∙◌}
 use mathlib.Core.Bool.{Bool, true, false, cond, not, ◌&&◌, ◌||◌, or_assoc, or_comm}
 use mathlib.Core.Logic.{∥∥₁_elim}
 use mathlib.Core.List.Permᴰ
@@ -101,9 +101,9 @@ pub norepeat-perm : {d e : Database} → Permᴰ d e → NoRepeat d → NoRepeat
 norepeat-perm Permᴰ.nil n = n
 norepeat-perm (Permᴰ.cons {a = a} {l₂ = e} same rest) n =
     rw (← same) (sym (holds-perm _ _ rest) ∙ n.0, norepeat-perm rest n.1)
-norepeat-perm (Permᴰ.swap {a = a} {b = b} {l = l} e f) n =
+norepeat-perm (Permᴰ.swap {a = a} {b = b} {a' = a'} {b' = b'} {l = l} e f) n =
     let m = neither _ _ n.0 in
-    rw (← e, ← f) (ap₂ ◌||◌ (apart a b m.0) n.1.0, (m.1, n.1.1))
+    subst (λ r. NoRepeat (r ∷ b' ∷ l)) f (subst (λ r. NoRepeat (b ∷ r ∷ l)) e (ap₂ ◌||◌ (apart a b m.0) n.1.0, (m.1, n.1.1)))
 norepeat-perm (Permᴰ.trans x y) n = norepeat-perm y (norepeat-perm x n)
 
 -- ---- the same row is found
