@@ -3,8 +3,8 @@
 // it read before, one at version 1 stays expired, and the next run has the number 3 again. Says each answer, a line each.
 #![tactic(auto)]
 
-use libc::STDOUT_FILENO;
 use reader::{Numbered, Seen, VersionRecord};
+use std::io;
 
 const REGION: i64 = 7;
 
@@ -12,36 +12,41 @@ const REGION: i64 = 7;
 const TABLE_WORDS: usize = 8 * reader::SLOT_WORDS;
 
 // A number; there is none below 0 in this day.
-fn say_number(number: i64) {
+fn say_number(rt: &impl Print, number: i64) -> io::Result<()> {
     if number >= 0 {
-        io::print_decimal(STDOUT_FILENO, number as u64);
+        print!(rt; "{number}")
     } else {
-        io::write_all(STDOUT_FILENO, b"a number below 0");
+        print!(rt; "a number below 0")
     }
 }
 
 // The number of a version, after what was done; or a refusal.
-fn say_version(done: &[u8], answer: Numbered) {
-    io::write_all(STDOUT_FILENO, done);
+fn say_version(rt: &impl Print, done: &str, answer: Numbered) -> io::Result<()> {
+    print!(rt; "{done}")?;
     match answer {
         Numbered::Version(version) => {
-            io::write_all(STDOUT_FILENO, b": version ");
-            say_number(version);
+            print!(rt; ": version ")?;
+            say_number(rt, version)?;
         }
         Numbered::Refused(number) => {
-            io::write_all(STDOUT_FILENO, b": refused ");
-            io::print_decimal(STDOUT_FILENO, number as u64);
+            print!(rt; ": refused {number}")?;
         }
     }
-    io::write_all(STDOUT_FILENO, b"\n");
+    println!(rt)
 }
 
 // What a session reads of a store: its first total, no row, or a refusal.
-fn say_store(table: &[i64], versions: VersionRecord, session: i64, store: i64) {
-    io::write_all(STDOUT_FILENO, b"session ");
-    say_number(session);
-    io::write_all(STDOUT_FILENO, b", store ");
-    say_number(store);
+fn say_store(
+    rt: &impl Print,
+    table: &[i64],
+    versions: VersionRecord,
+    session: i64,
+    store: i64,
+) -> io::Result<()> {
+    print!(rt; "session ")?;
+    say_number(rt, session)?;
+    print!(rt; ", store ")?;
+    say_number(rt, store)?;
     match reader::read_key(table, versions, session, REGION, store) {
         Seen::Row {
             key1: _,
@@ -49,22 +54,21 @@ fn say_store(table: &[i64], versions: VersionRecord, session: i64, store: i64) {
             total1,
             total2: _,
         } => {
-            io::write_all(STDOUT_FILENO, b": ");
-            say_number(total1);
+            print!(rt; ": ")?;
+            say_number(rt, total1)?;
         }
         Seen::NoRow => {
-            io::write_all(STDOUT_FILENO, b": no row");
+            print!(rt; ": no row")?;
         }
         Seen::Refused(number) => {
-            io::write_all(STDOUT_FILENO, b": refused ");
-            io::print_decimal(STDOUT_FILENO, number as u64);
+            print!(rt; ": refused {number}")?;
         }
     }
-    io::write_all(STDOUT_FILENO, b"\n");
+    println!(rt)
 }
 
 // Version 2: three stores.
-fn open_stores(table: &mut [i64]) -> VersionRecord {
+fn open_stores(rt: &impl Print, table: &mut [i64]) -> io::Result<VersionRecord> {
     let begun = reader::begin_by_value(VersionRecord::fresh());
     let running = begun.versions;
     reader::put(table, running, REGION, 1, 400, 0);
@@ -73,49 +77,53 @@ fn open_stores(table: &mut [i64]) -> VersionRecord {
     let committed = reader::commit_by_value(running);
     let answer = committed.answer;
     let versions = committed.versions;
-    say_version(b"three stores are put in and committed", answer);
-    versions
+    say_version(rt, "three stores are put in and committed", answer)?;
+    Ok(versions)
 }
 
 // Run 3 on the bad feed, rolled back.
-fn give_up(table: &mut [i64], versions: VersionRecord) -> VersionRecord {
+fn give_up(
+    rt: &impl Print,
+    table: &mut [i64],
+    versions: VersionRecord,
+) -> io::Result<VersionRecord> {
     let begun = reader::begin_by_value(versions);
     let began = begun.answer;
     let running = begun.versions;
-    say_version(b"a run begins on a bad feed", began);
+    say_version(rt, "a run begins on a bad feed", began)?;
     reader::put(table, running, REGION, 2, 5200, 0);
     reader::delete(table, running, REGION, 3);
     reader::put(table, running, REGION, 9, 100, 0);
     let back = reader::roll_back_by_value(table, running);
     let answer = back.answer;
     let left = back.versions;
-    say_version(b"it is rolled back", answer);
-    left
+    say_version(rt, "it is rolled back", answer)?;
+    Ok(left)
 }
 
 // Run 3 again, on the right feed.
-fn go_on(table: &mut [i64], versions: VersionRecord) -> VersionRecord {
+fn go_on(rt: &impl Print, table: &mut [i64], versions: VersionRecord) -> io::Result<VersionRecord> {
     let begun = reader::begin_by_value(versions);
     let began = begun.answer;
     let running = begun.versions;
-    say_version(b"a run begins on the right feed", began);
+    say_version(rt, "a run begins on the right feed", began)?;
     reader::put(table, running, REGION, 2, 205, 0);
     let committed = reader::commit_by_value(running);
     let answer = committed.answer;
     let after = committed.versions;
-    say_version(b"it is committed", answer);
-    after
+    say_version(rt, "it is committed", answer)?;
+    Ok(after)
 }
 
-fn main() {
+fn main(rt: HostRuntime) -> io::Result<()> {
     let mut table = [0i64; TABLE_WORDS];
-    let opened = open_stores(&mut table);
-    let left = give_up(&mut table, opened);
-    say_store(&table, left, 2, 2);
-    say_store(&table, left, 2, 3);
-    say_store(&table, left, 2, 9);
-    say_store(&table, left, 1, 2);
-    let after = go_on(&mut table, left);
-    say_store(&table, after, 2, 2);
-    say_store(&table, after, 3, 2);
+    let opened = open_stores(&rt, &mut table)?;
+    let left = give_up(&rt, &mut table, opened)?;
+    say_store(&rt, &table, left, 2, 2)?;
+    say_store(&rt, &table, left, 2, 3)?;
+    say_store(&rt, &table, left, 2, 9)?;
+    say_store(&rt, &table, left, 1, 2)?;
+    let after = go_on(&rt, &mut table, left)?;
+    say_store(&rt, &table, after, 2, 2)?;
+    say_store(&rt, &table, after, 3, 2)
 }

@@ -4,7 +4,7 @@
 ghost use Rattle.std.specs.Prelude.{◌<◌};
 
 use blocks_saves::Saved;
-use libc::STDOUT_FILENO;
+use std::io;
 use versions::VersionRecord;
 
 fn wide(byte: u8) -> u64
@@ -23,26 +23,25 @@ fn check_of(block: [u8; 512]) -> u64 {
 }
 
 // A line: the refusal, and the check.
-fn print(saved: Saved) {
-    io::print_decimal(STDOUT_FILENO, saved.refusal as u64);
-    io::write_all(STDOUT_FILENO, b" ");
+fn print(rt: &impl Print, saved: Saved) -> io::Result<()> {
+    let refusal = saved.refusal;
     let block = saved.block;
-    io::print_decimal(STDOUT_FILENO, check_of(block));
-    io::write_all(STDOUT_FILENO, b"\n");
+    let check = check_of(block);
+    println!(rt; "{refusal} {check}")
 }
 
-fn main() {
+fn main(rt: HostRuntime) -> io::Result<()> {
     let mut table = [0i64; 64];
     let fresh = VersionRecord::fresh();
-    print(blocks::save_header(&table, fresh));
-    print(blocks::save_block(&table, fresh, 1));
+    print(&rt, blocks::save_header(&table, fresh))?;
+    print(&rt, blocks::save_block(&table, fresh, 1))?;
     let running = VersionRecord {
         current: 1,
         active: true,
         oldest: 1,
     };
-    print(blocks::save_header(&table, running));
-    print(blocks::save_block(&table, running, 1));
+    print(&rt, blocks::save_header(&table, running))?;
+    print(&rt, blocks::save_block(&table, running, 1))?;
     table[0] = 2;
     table[1] = 1;
     table[2] = 1;
@@ -53,7 +52,7 @@ fn main() {
         active: false,
         oldest: 1,
     };
-    print(blocks::save_block(&table, second, 1));
+    print(&rt, blocks::save_block(&table, second, 1))?;
     table[5] = -1;
-    print(blocks::save_block(&table, second, 1));
+    print(&rt, blocks::save_block(&table, second, 1))
 }

@@ -2,29 +2,29 @@
 // and the mean of each total; and a session that has expired is told to open again. Says what each session read.
 #![tactic(auto)]
 
-use libc::STDOUT_FILENO;
 use reader::{Rolled, Seen, VersionRecord};
+use std::io;
 
 // What a host says of a refused read: a session that has expired opens again, and any other refusal here would be a fault.
-fn print_refusal(number: u32) {
+fn print_refusal(rt: &impl Print, number: u32) -> io::Result<()> {
     if number == reader::EXPIRED {
-        io::write_all(STDOUT_FILENO, b"has expired: open again\n");
+        println!(rt; "has expired: open again")
     } else {
-        io::write_all(STDOUT_FILENO, b"is refused\n");
+        println!(rt; "is refused")
     }
 }
 
 // Whether it is the total that the run stored.
-fn print_total(total: i64) {
+fn print_total(rt: &impl Print, total: i64) -> io::Result<()> {
     if total == 10000 {
-        io::write_all(STDOUT_FILENO, b"10000\n");
+        println!(rt; "10000")
     } else {
-        io::write_all(STDOUT_FILENO, b"another number\n");
+        println!(rt; "another number")
     }
 }
 
 // What a read answers: a row, of which the first total is told; no row; or a refusal.
-fn print_seen(seen: Seen) {
+fn print_seen(rt: &impl Print, seen: Seen) -> io::Result<()> {
     match seen {
         Seen::Row {
             key1: _,
@@ -32,27 +32,24 @@ fn print_seen(seen: Seen) {
             total1,
             total2: _,
         } => {
-            io::write_all(STDOUT_FILENO, b"reads ");
-            print_total(total1);
+            print!(rt; "reads ")?;
+            print_total(rt, total1)
         }
-        Seen::NoRow => {
-            io::write_all(STDOUT_FILENO, b"reads no row\n");
-        }
-        Seen::Refused(number) => print_refusal(number),
+        Seen::NoRow => println!(rt; "reads no row"),
+        Seen::Refused(number) => print_refusal(rt, number),
     }
 }
 
 // The mean of a total over the rows that reported it, whole and toward 0, made of the sum and how many reported it.
-fn print_mean(reported: u32, sum: i64) {
+fn print_mean(rt: &impl Print, reported: u32, sum: i64) -> io::Result<()> {
     if reported == 0 {
-        io::write_all(STDOUT_FILENO, b"none reported\n");
-        return;
+        return println!(rt; "none reported");
     }
-    print_total(sum / reported as i64);
+    print_total(rt, sum / reported as i64)
 }
 
 // What a roll-up answers: the means of both totals; or a refusal.
-fn print_means(rolled: Rolled) {
+fn print_means(rt: &impl Print, rolled: Rolled) -> io::Result<()> {
     match rolled {
         Rolled::Sums {
             rows: _,
@@ -61,16 +58,16 @@ fn print_means(rolled: Rolled) {
             sum1,
             sum2,
         } => {
-            io::write_all(STDOUT_FILENO, b"mean of total one: ");
-            print_mean(reported1, sum1);
-            io::write_all(STDOUT_FILENO, b"mean of total two: ");
-            print_mean(reported2, sum2);
+            print!(rt; "mean of total one: ")?;
+            print_mean(rt, reported1, sum1)?;
+            print!(rt; "mean of total two: ")?;
+            print_mean(rt, reported2, sum2)
         }
-        Rolled::Refused(number) => print_refusal(number),
+        Rolled::Refused(number) => print_refusal(rt, number),
     }
 }
 
-fn main() {
+fn main(rt: HostRuntime) -> io::Result<()> {
     let mut table = [0i64; 64];
     let begun = reader::begin_by_value(VersionRecord::fresh());
     let running = begun.versions;
@@ -93,12 +90,12 @@ fn main() {
     let committed = reader::commit_by_value(running);
     let versions = committed.versions;
     let seen = reader::read_key(&table, versions, 2, 1, 19961014);
-    io::write_all(STDOUT_FILENO, b"session 2 ");
-    print_seen(seen);
-    print_means(reader::roll_up(&table, versions, 2, 1));
+    print!(rt; "session 2 ")?;
+    print_seen(&rt, seen)?;
+    print_means(&rt, reader::roll_up(&table, versions, 2, 1))?;
     let begun_again = reader::begin_by_value(versions);
     let correcting = begun_again.versions;
     let late = reader::read_key(&table, correcting, 1, 1, 19961014);
-    io::write_all(STDOUT_FILENO, b"session 1 ");
-    print_seen(late);
+    print!(rt; "session 1 ")?;
+    print_seen(&rt, late)
 }

@@ -1,6 +1,6 @@
 // The program `steps`, over the session of docs/session.txt.
 #![tactic(auto)]
 
-fn main() {
-    steps_io::run();
+fn main(rt: HostRuntime) {
+    steps_io::run(&rt);
 }

@@ -2,6 +2,6 @@
 // can meet, a line that is longer than any buffer, and a last line without a newline.
 #![tactic(auto)]
 
-fn main() {
-    steps_io::run();
+fn main(rt: HostRuntime) {
+    steps_io::run(&rt);
 }
