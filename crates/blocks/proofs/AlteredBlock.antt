@@ -9,7 +9,7 @@ use Rattle.blocks_headers.specs.HeaderFieldLaws.{header_words_lem}
 use Rattle.blocks.specs.HeaderLaws.{header_lawful, header_block}
 use Rattle.blocks_saves.specs.SlotBlocks.{no_such_block}
 use Rattle.blocks.specs.FrontLaws.{front_passes}
-use Rattle.blocks.specs.EndLaws.{end_15, load_block_end}
+use Rattle.blocks.proofs.EndLaws.{end_15, load_block_end}
 use Rattle.blocks_saves.specs.SlotsBack.{slot-words}
 use Rattle.blocks.specs.SavedBlockLaws.{slots-saved, number_fits}
 use Rattle.blocks.specs.SaveHeader.{save_header_refusal, save_header_block}

@@ -23,7 +23,7 @@ use Rattle.blocks_loads.specs.LoadedLaws.{loaded_length, loaded_other, loaded_sa
 use Rattle.blocks.specs.declared.Header.TheVariants.{Holds}
 use Rattle.blocks.specs.declared.Loaded.TheVariants.{Done}
 use Rattle.blocks.specs.HeaderLaws.{header_lawful, header_block, header_read}
-use Rattle.blocks.specs.EndLaws.{end_0, load_block_end}
+use Rattle.blocks.proofs.EndLaws.{end_0, load_block_end}
 use Rattle.blocks_saves.specs.SlotBlocks.{slot_block_words}
 use Rattle.blocks_saves.specs.SlotBlockLaws.{block_formed}
 use Rattle.blocks_saves.specs.SlotsBack.{Fitting, slot-words, number-back, filler_back, slot-back}
