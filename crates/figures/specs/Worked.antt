@@ -4,7 +4,6 @@
 -- that run 3 freed. Assumes nothing.
 use Rattle.std.specs.Prelude.{◌≡◌, refl, false, pos}
 use mathlib.Core.List.{List, [], ◌∷◌, Perm}
-use mathlib.Core.List as L
 use Rattle.std.proofs.Common.{arith}
 use Rattle.laws.specs.Tests.{all, any}
 use Rattle.laws.specs.First.{first}
