@@ -5,7 +5,7 @@ import pathlib
 import re
 
 top = pathlib.Path(__file__).resolve().parent.parent
-OURS = 'Rattle·'
+OURS = 'Rattle.'
 # A word is a run of other characters than these, or escaped; a path is words with dots between.
 BREAKS = r'\s(){}.;,@"«»'
 WORD = rf'(?:«[^»]*»|[^{BREAKS}]+)'
@@ -16,7 +16,13 @@ BEGIN, END = rf'(?<![^{BREAKS}])', rf'(?![^{BREAKS}])'
 def dependencies():
     """The crates of crates.txt, each with the crates that it names."""
     lines = [line.split('#')[0] for line in (top / 'crates.txt').read_text().split('\n')]
-    return {name.strip(): deps.split() for name, deps in (line.split(':') for line in lines if ':' in line)}
+    return {name.split()[0]: deps.split() for name, deps in (line.split(':') for line in lines if ':' in line)}
+
+
+def handed_on(file):
+    """What a crate's root hands on by `pub use`, alone or in braces: pairs of a crate and a name."""
+    uses = re.findall(r'^pub use (\w+)::(?:\{([^}]*)\}|(\w+));', file.read_text(), re.M)
+    return [(crate, name.strip()) for crate, several, one in uses for name in (several or one).split(',') if name.strip()]
 
 
 def bare(file):
@@ -27,15 +33,20 @@ def bare(file):
 
 
 def words(path):
-    """The words of a path. A library's name loses what it says of the part (`Rattle·table·specs`) and `package` before it."""
+    """The words of a path, `package` before it left out. A crate's name is one word with the `Rattle.` before it."""
     found = [word.strip('«»') for word in re.findall(WORD, path)]
     found = found[1:] if found[0] == 'package' else found
-    return ['·'.join(found[0].split('·')[:2])] + found[1:] if found[0].startswith(OURS) else found
+    return [OURS + found[1]] + found[2:] if found[0] == OURS[:-1] and len(found) > 1 else found
+
+
+def is_ours(crate):
+    """Whether a crate stands in this repository: the library's own begin with `Rattle.` too."""
+    return (top / 'crates' / crate).is_dir()
 
 
 def crate_of(path):
     """The crate that a whole path begins in, if it is one of ours."""
-    return path[0][len(OURS):] if path[0].startswith(OURS) else None
+    return path[0][len(OURS):] if path[0].startswith(OURS) and is_ours(path[0][len(OURS):]) else None
 
 
 def unfolded(text):

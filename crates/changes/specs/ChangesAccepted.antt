@@ -28,7 +28,7 @@ use Rattle.reads.specs.Table1.{shown}
 use Rattle.reads.specs.Table1Laws.{shown-deleted, shown-empty}
 use Rattle.changes_rows.specs.declared.Placed.{Placed}
 use Rattle.changes_cells.specs.Tables.{put_over, deleted}
-use Rattle.changes_cells.specs.TableLaws.{put_new, put_deleted_older, put_deleted_same, put_live_older, put_live_same, deleted_older, deleted_insert, deleted_update}
+use Rattle.changes_cells.proofs.TableLaws.{put_new, put_deleted_older, put_deleted_same, put_live_older, put_live_same, deleted_older, deleted_insert, deleted_update}
 use Rattle.changes.specs.Effects.{Effect, run_within, save_effect, correct_effect, remove_effect, erase_effect, mark_effect, restore_effect, insert_effect}
 use Rattle.changes.specs.Whole.{Whole, KeysApart, Wrote, only_slot}
 use Rattle.changes_rows.specs.PutRow.{slot_to_take}

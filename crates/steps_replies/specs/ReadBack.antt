@@ -28,7 +28,7 @@ last_digit (c ∷ bs) b = rw (last_digit bs b) (sym (and_assoc (is_digit c) (all
 
 last_number : (n : ℕ) (bs : List ℕ) (b : ℕ) → decimal_from n (bs ++ (b ∷ [])) ≡ decimal_from n bs * 10 + (b - zero_byte)
 last_number n [] b = refl
-last_number n (c ∷ bs) b = last_number _ bs b
+last_number n (c ∷ bs) b = last_number (n * 10 + (c - zero_byte)) bs b
 
 one_digit : (d : ℕ) → d < 10 → Makes ((zero_byte + d) ∷ []) d
 one_digit d l = record { some = omega arith; digits = rw (digit_is d l) refl; number = omega arith }

@@ -5,14 +5,15 @@
 -- does where the record that g leaves is stored; code that stores the other, or that calls another function, is refused there.
 -- The argument is a walk of the code. The borrow is opened, the record is copied out and handed to g, what g returns is spelled out
 -- where it lies, its record is copied, one of the two is stored, its answer is read, and the borrow is closed at the stored record.
--- Signatures are `begin`'s and `begin_by_value`'s, which all such functions have. Assumes nothing.
+-- Signatures are `begin`'s and `begin_by_value`'s, which all such functions have. The check shows the same of `begin` and `commit`
+-- with no file, and no proof of this crate cites the walk. Assumes nothing.
 use mathlib.Core.Path.{◌≡◌, refl, ap}
 use mathlib.Core.Bool.{Bool, true}
 use mathlib.Core.List.{[], ◌∷◌, List}
 use Prim.Native.Nat.{ℕ}
 use seplogic.Ra.Ura.{Ura}
-use seplogic.Ra.TreeShare.{full_share}
-use mir.Syntax.{Name, Fn, local, value_local, ty_ref, named, mut, place, deref, field, copy, rv_opd, assign, call, seq, return}
+use base.Fraction.{full_share}
+use mir.Syntax.{Callee, Fn, local, value_local, ty_ref, named, mut, place, deref, field, copy, rv_opd, assign, call, seq, return}
 use mir.Val.{Val, vptr}
 use base.Logic.{SProp, ent, emp, via, fst∗, id⊢}
 use base.Fml.{GName, Lft, Share, ftrue, flft, fat}
@@ -73,9 +74,11 @@ abbrev stored : ℕ → VersionRecord → Turned → VersionRecord
 stored = locals.stored was_local left_local
 
 -- ---- the code: local 0 is the answer, 1 the reference, 3 what g returns, and k the local whose record is stored
-abbrev code : Name → ℕ → Fn
+abbrev code : Callee → ℕ → Fn
 code g k = record {
   lifetimes = 1;
+  ty_params = [];
+  givens = 0;
   outlives = [];
   params = 1;
   locals = local numbered-laws.mir value_local
@@ -135,7 +138,7 @@ module _ {M : Type 1} (Turns : VersionRecord → Turned → Type 0) (𝓤 : Ura 
     goes : AllGo 𝓛 1 (begin.signature).params (begin.ended).kept stayed
     goes = (Goes-ref 𝓛 1 0 tt (plain (λ _. versions.the_row)), tt)
 
-    module _ (C : Calls 𝓤 H) (Λ : Loops 𝓤 H) (framed : FmC 𝓤 H 𝓛.laws C) (g : Name) (known : Triple 𝓤 (C g) ByValue)
+    module _ (C : Calls 𝓤 H) (Λ : Loops 𝓤 H) (framed : FmC 𝓤 H 𝓛.laws C) (g : Callee) (known : Triple 𝓤 (C g) ByValue)
         (k : ℕ) (holds : holds_record k ≡ true) (meets : (v : VersionRecord) (r : Turned) → Turns v r → Turns v (leaving r.answer (stored k v r))) where
       -- ---- the walk, at a lifetime and a share of its token, and at a reference and the record v behind it
       module _ (κ : Lft) (q : Share) (b o : ℕ) (γ : GName) (v : VersionRecord) where
@@ -221,7 +224,7 @@ module _ {M : Type 1} (Turns : VersionRecord → Turned → Type 0) (𝓤 : Ura 
 
 -- ---- from g's routine to the function f that has the code
 pub lent_meets : {M : Type 1} (Turns : VersionRecord → Turned → Type 0)
-    (𝓤 : Ura M) (𝓛 : Logic 𝓤) (𝓜 : Model 𝓤 𝓛.H) (𝓡 : Running 𝓤 𝓛.H 𝓜) (env : Env) (f g : Name) (r : Routine)
+    (𝓤 : Ura M) (𝓛 : Logic 𝓤) (𝓜 : Model 𝓤 𝓛.H) (𝓡 : Running 𝓤 𝓛.H 𝓜) (env : Env) (f g : Callee) (r : Routine)
     → env g ≡ r → (k : ℕ) → holds_record k ≡ true → Closed 𝓤 𝓛.H (tables 𝓤 𝓛.H 𝓜 𝓡 env).C (tables 𝓤 𝓛.H 𝓜 𝓡 env).Λ f (code g k)
     → ((v : VersionRecord) (t : Turned) → Turns v t → Turns v (leaving t.answer (stored k v t)))
     → Triple 𝓤 (𝓡.run r) (ByValue Turns 𝓤 𝓛) → Triple 𝓤 ((tables 𝓤 𝓛.H 𝓜 𝓡 env).C f) (Lent Turns 𝓤 𝓛)

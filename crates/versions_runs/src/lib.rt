@@ -41,8 +41,8 @@ fn kept(versions: VersionRecord, number: u32) -> Turned
     }
 }
 
-// Begin, by value. The oldest open version stands in a local so that must-fail/begin_keeps_the_oldest.edit can read the record's in its
-// place, at the same places of the proof.
+// Begin, by value. Its last test and the oldest open version stand in locals so that must-fail/begin_past_the_largest.edit can test
+// another number, and must-fail/begin_keeps_the_oldest.edit read the record's oldest, at the same places of the proof.
 pub fn begin_by_value(versions: VersionRecord) -> Turned
     ensures { BeginContract versions result }
 {
@@ -53,7 +53,8 @@ pub fn begin_by_value(versions: VersionRecord) -> Turned
         return kept(versions, refusals::RUN_ACTIVE);
     }
     let current = versions.current;
-    if current == VersionRecord::LARGEST {
+    let last = current == VersionRecord::LARGEST;
+    if last {
         return kept(versions, refusals::NO_VERSION_LEFT);
     }
     let oldest_open = versions.current;
