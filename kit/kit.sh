@@ -2,7 +2,7 @@
 # library, a C program that is linked with it, and the command that runs x86-64
 # code. To be sourced in the repository's root.
 
-archive=target/staticlib/libprobe.a
+archive=crates/probe/out/libprobe.a
 processor=x86_64-unknown-linux-gnu
 
 # Ends the script: something could not be found or built.
@@ -14,20 +14,27 @@ cannot() { # WHY
 find_kit() {
     command -v rt >/dev/null || cannot 'there is no rt on the path'
     kit=${RATTLE_HOME:-$(dirname "$(dirname "$(readlink -f "$(command -v rt)")")")}
-    own=$kit/on/$(uname -m)
-    tools=$own/toolchain
-    [ -d "$tools" ] || cannot "the kit at $kit has nothing for this machine"
+    tools=$kit/toolchain
+    [ -x "$tools/bin/clang" ] || cannot "the kit at $kit has no compiler"
 }
 
 # Whether something that the repository's crates are made into is missing, or
-# older than one of their files.
+# older than one of their files. What rt makes of a crate, in its folder out/,
+# does not count, nor that the folder was put there.
 is_stale() { # MADE
-    [ ! -f "$1" ] || [ -n "$(find crates crates.txt -newer "$1" -print -quit)" ]
+    [ ! -f "$1" ] ||
+        [ -n "$(find crates crates.txt -name out -prune -o -newer "$1" \( ! -type d -o -path 'crates/*/*' \) -print -quit)" ]
 }
 
 # The archive is proved and written unless it is newer than all that it is made of.
+# rt leaves it as it was where what is newer does not reach it; so it counts as
+# made when this began.
 build_archive() {
-    if is_stale "$archive"; then rt staticlib probe || exit 2; fi
+    local began=target/archive.began
+    is_stale "$archive" || return 0
+    mkdir -p target && touch "$began" || exit 2
+    (cd crates/probe && rt lib) || exit 2
+    touch -r "$began" "$archive"
 }
 
 # Has the kit's compiler look at a C or C++ file, with our own headers since it
@@ -41,7 +48,7 @@ compile() { # WORDS..
 build_c_program() { # SOURCE ARCHIVE PROGRAM
     mkdir -p "$(dirname "$3")"
     compile -std=c11 -O2 -fPIC -c "$1" -o "$3.o"
-    "$own/bin/rattle-link" --target "$processor" --toolchain "$tools" \
+    "$kit/bin/rattle-link" --target "$processor" --toolchain "$tools" \
         -o "$3" "$3.o" "$2" 2>"$3.said" || { cat "$3.said" >&2; exit 2; }
 }
 

@@ -4,9 +4,6 @@ pub mod LoadHeader
 pub mod LoadBlock
 pub mod BlockTests
 pub mod FrontLaws
-pub mod EndLaws
 pub mod ContractLaws
 pub mod HeaderLaws
-pub mod RoundTrip
-pub mod AlteredBlock
 pub mod SavedBlockLaws

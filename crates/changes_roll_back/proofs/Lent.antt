@@ -4,8 +4,9 @@
 -- table at exit. `lent_meets` shows, over the name of g, over `Turns` and over the local that is stored, that the code does what g
 -- does by value if `Turns` also holds of g's answer beside the stored record. It does where the record that g leaves is stored; code
 -- that stores the other is refused there. The argument is the walk of `versions_runs/proofs/Lent` with a slice beside the record: the
--- borrow of the record is opened and copied out, the table is lent on to g with its token, and comes back at its last list.
--- Signatures are `roll_back`'s and `roll_back_by_value`'s. Assumes nothing.
+-- borrow of the record is opened and copied out, the table is lent on to g with its token, and comes back at its last list with its
+-- borrow. Signatures are `roll_back`'s and `roll_back_by_value`'s. The check shows the same of `roll_back` with no file, and no proof
+-- of this crate cites the walk. Assumes nothing.
 use mathlib.Core.Path.{◌≡◌, refl, ap}
 use mathlib.Core.Bool.{Bool, true}
 use mathlib.Core.List.{[], ◌∷◌, List}
@@ -13,8 +14,8 @@ use Prim.Native.Nat.{ℕ}
 use lib.IntN.{ℤ}
 use lib.ListN.{length}
 use seplogic.Ra.Ura.{Ura}
-use seplogic.Ra.TreeShare.{full_share}
-use mir.Syntax.{Name, Fn, local, value_local, ty_ref, ty_int, w64, named, erased, mut, place, deref, field, copy, rv_opd, addr_of, aggregate, assign, call, seq, return}
+use base.Fraction.{full_share}
+use mir.Syntax.{Callee, Fn, local, value_local, ty_ref, ty_int, w64, named, erased, mut, place, deref, field, copy, rv_opd, addr_of, aggregate, assign, call, seq, return}
 use mir.Val.{Val, vptr}
 use base.Logic.{SProp, ent, emp, via, fst∗, id⊢}
 use base.Fml.{GName, Lft, Share, ftrue, flft, fat}
@@ -78,10 +79,12 @@ stored = locals.stored was_local left_local
 
 -- ---- the code: local 0 is the answer, 1 the table, 2 the reference, 4 what g returns, 6 and 7 the table lent on, and k the local whose
 -- record is stored
-abbrev code : Name → ℕ → Fn
+abbrev code : Callee → ℕ → Fn
 code g k = record {
   lifetimes = 2;
   outlives = [];
+  ty_params = [];
+  givens = 0;
   params = 2;
   locals = local numbered-laws.mir value_local
       ∷ local (slice_ty (ty_ref (named 0) mut (ty_int w64))) value_local
@@ -145,7 +148,7 @@ module _ {M : Type 1} (Turns : List ℤ → VersionRecord → Turned → List �
     goes : AllGo 𝓛 2 (lends.signature).params (lends.ended).kept stayed
     goes = (Goes-gave_slice 𝓛 2 0 tt (plain (λ _. i64)), (Goes-ref 𝓛 2 1 tt (plain (λ _. versions.the_row)), tt))
 
-    module _ (C : Calls 𝓤 H) (Λ : Loops 𝓤 H) (framed : FmC 𝓤 H 𝓛.laws C) (g : Name) (known : Triple 𝓤 (C g) ByValue)
+    module _ (C : Calls 𝓤 H) (Λ : Loops 𝓤 H) (framed : FmC 𝓤 H 𝓛.laws C) (g : Callee) (known : Triple 𝓤 (C g) ByValue)
         (k : ℕ) (holds : holds_record k ≡ true)
         (meets : (t : List ℤ) (v : VersionRecord) (r : Turned) (t' : List ℤ) → Turns t v r t' → Turns t v (leaving r.answer (stored k v r)) t') where
       -- ---- the walk, at two lifetimes and shares of their tokens, at a reference and the record v behind it, and at a slice of the
@@ -170,8 +173,8 @@ module _ {M : Type 1} (Turns : List ℤ → VersionRecord → Turned → List �
         abbrev to_g : ByValue.Ghost
         to_g = (((κ, tt), (q, tt), tt, (table, (v, tt)), (slice ∷ [], (record_value v ∷ [], tt))), tt)
 
-        -- what is had once it has returned u: the table's token, what a value r owns at u, the table's last list, and what g's contract
-        -- says of them
+        -- what is had once it has returned u: the table's token, what a value r owns at u, the table's last list with its borrow, and
+        -- what g's contract says of them
         abbrev of_g : Val → Turned → Item 𝓤
         of_g u r =
             ((‵ (flft κ q) ⊛ ‵ ftrue) ⊛ ‵ ((turned.the_row).own_val r (u ∷ [])))
@@ -213,12 +216,13 @@ module _ {M : Type 1} (Turns : List ℤ → VersionRecord → Turned → List �
             (and_then ! (load ! (from ! (stop !)) (look ! 13 refl)) (no_more !))) (λ u.
             use1 𝓛 (later (some (of_g u))) (id⊢ 𝓤 _) $ await ! tt $ pick ! (λ r.
             split ! $ move ! (1 ∷ []) $ pick ! (λ ws. split ! $ move ! (1 ∷ []) $ heard ! (Turns t v r ws.0) (λ turns.
-            fsplit ! $ fsplit ! $ move ! (1 ∷ []) $ feq_l ! (λ same. move ! (2 ∷ []) $ split ! $ move ! (1 ∷ []) $
+            fsplit ! $ fsplit ! $ fsplit ! $ move ! (1 ∷ []) $ feq_l ! (λ same. fjoin ! $ move ! (2 ∷ []) $ split ! $ move ! (1 ∷ []) $
             peeks ! turned.the_row (Is turned.the_row) (shows 𝓛 turned.the_row) r (u ∷ []) (λ is.
             land ! (from ! (stop !)) (init ! 14 refl (turned_lawful.typed r _ is).0) $
             rewrite ! 14 (λ (w : Val). ‵ (fat full_share turned-laws.mir returned-at 0 w))
             (ap only (struct.tells turned.the_type turned-laws.the_laws r _ is)) refl $ drop ! $
-            -- has: the table's token, its last list, nothing; the record's cell, the three of the open borrow; the locals from 7
+            -- has: the table's token, its last list and borrow, nothing; the record's cell, the three of the open borrow; the locals
+            -- from 7
             -- left = 4.versions
             assigns ! (of_opd ! (load ! (from ! (fld ! refl (stop !))) (look_in ! 13 (sub ! 1 refl (whole !)))))
             (from ! (stop !)) (init ! 11 refl (record_lawful.typed r.versions _ (record_is r u is)).0) $
@@ -233,7 +237,7 @@ module _ {M : Type 1} (Turns : List ℤ → VersionRecord → Turned → List �
             owned ! versions.the_row (Is versions.the_row) (struct.makes versions.the_type version-laws.the_plain 𝓛)
             (stored k v r) _ (locals.stored_is was_local left_local v r u k holds was is) $
             move ! (4 ∷ 0 ∷ 5 ∷ 6 ∷ 7 ∷ []) $ closes ! tt versions.the_row (stored k v r) (record_value (stored k v r) ∷ []) b o $
-            -- has: the three of the borrow; the table's token, its last list, nothing; the locals from 6
+            -- has: the three of the borrow; the table's token, its last list and borrow, nothing; the locals from 6
             -- return
             returns ! (look ! 20 refl) $ forget ! 6 refl $ forget ! 8 refl $ forget ! 10 refl $ forget ! 12 refl $
             forget ! 14 refl $ forget ! 16 refl $ forget ! 18 refl $ forget ! 20 refl $
@@ -261,7 +265,7 @@ module _ {M : Type 1} (Turns : List ℤ → VersionRecord → Turned → List �
 
 -- ---- from g's routine to the function f that has the code
 pub lent_meets : {M : Type 1} (Turns : List ℤ → VersionRecord → Turned → List ℤ → Type 0)
-    (𝓤 : Ura M) (𝓛 : Logic 𝓤) (𝓜 : Model 𝓤 𝓛.H) (𝓡 : Running 𝓤 𝓛.H 𝓜) (env : Env) (f g : Name) (r : Routine)
+    (𝓤 : Ura M) (𝓛 : Logic 𝓤) (𝓜 : Model 𝓤 𝓛.H) (𝓡 : Running 𝓤 𝓛.H 𝓜) (env : Env) (f g : Callee) (r : Routine)
     → env g ≡ r → (k : ℕ) → holds_record k ≡ true → Closed 𝓤 𝓛.H (tables 𝓤 𝓛.H 𝓜 𝓡 env).C (tables 𝓤 𝓛.H 𝓜 𝓡 env).Λ f (code g k)
     → ((t : List ℤ) (v : VersionRecord) (x : Turned) (t' : List ℤ) → Turns t v x t' → Turns t v (leaving x.answer (stored k v x)) t')
     → Triple 𝓤 (𝓡.run r) (ByValue Turns 𝓤 𝓛) → Triple 𝓤 ((tables 𝓤 𝓛.H 𝓜 𝓡 env).C f) (Lent Turns 𝓤 𝓛)

@@ -4,9 +4,7 @@ use Rattle.std.specs.Prelude.{◌≡◌, refl, suc, length}
 use Rattle.std.proofs.Common.{ap, ◌∙◌}
 use Rattle.std.proofs.Math.Logic.{∥∥₁_elim}
 use mathlib.Core.List.{List, [], ◌∷◌, Perm, Permᴰ}
-use mathlib.Core.List as L
 use Rattle.std.proofs.Math.Nat.{ℕ_set}
-use mathlib.Core.List.Permᴰ
 
 -- what holds of nothing, of a head more on both, of two heads in the other order, and of one after another, holds of a permutation
 pub by_perm : {A : Type 0} {l m : List A} (P : List A → List A → Type 0) → P [] [] → ((a : A) (l m : List A) → P l m → P (a ∷ l) (a ∷ m))

@@ -2,16 +2,17 @@
 -- the record that g leaves. Nothing else of g is known than `Turns`, what its contract says of the record lent, of its answer and of
 -- the record left; `lending_meets` shows once, over the name of g and over `Turns`, that the code does by value what g does on a lent
 -- record. The argument is a walk of the code: the local is lent for a lifetime of the call, g is called at the reference, the
--- lifetime ends and the record comes back, and both are put into what is returned. Assumes nothing.
+-- lifetime ends and the record comes back, and both are put into what is returned. The check shows the same of `begin_by_value` and
+-- `commit_by_value` with no file, and no proof of this crate cites the walk. Assumes nothing.
 use mathlib.Core.Path.{◌≡◌, refl, ap}
 use mathlib.Core.List.{[], ◌∷◌, List}
 use Prim.Native.Nat.{ℕ}
 use seplogic.Ra.Ura.{Ura}
-use seplogic.Ra.TreeShare.{full_share}
-use mir.Syntax.{Name, Fn, local, value_local, memory_slot, ty_ref, named, erased, mut, place, copy, rv_opd, addr_of, aggregate, assign, call, seq, return}
+use base.Fraction.{full_share}
+use mir.Syntax.{Callee, Fn, local, value_local, memory_slot, ty_ref, named, erased, mut, place, copy, rv_opd, addr_of, aggregate, assign, call, seq, return}
 use mir.Val.{Val, vptr}
 use base.Logic.{SProp, ent, emp, via, fst∗, id⊢}
-use base.Fml.{GName, ftrue, fsep, flft, fat, flent, fres}
+use base.Fml.{GName, ftrue, fsep, flft, fat, flent}
 use prog.Model.{Model}
 use prog.Routine.{Routine, Env}
 use prog.Wp.{Calls, Loops, WpFn, Closed}
@@ -19,7 +20,7 @@ use types.Logic.{Logic}
 use contract.Monad.{fact}
 use contract.Running.{Running, tables, tables_of}
 use types.Kit.{Item, ‵, raw, ◌⊛◌, some, later, ◌$◌, ◌∵◌, !, qed, move, keep, drop, use1, use3, split, join, pick, rewrite}
-use types.Kit.{fsplit, fjoin, fpick, fpack, suffices, frame, await, done}
+use types.Kit.{fsplit, fjoin, fpick, fpack, suffices, await, done}
 use types.Run.{look, init, forget, stop, from, load, addr, of_opd, and_then, no_more, assigns, land, returns}
 use types.Run.{enter, alloc1, alloc0, params1, pass1, pass0, free1, free0}
 use types.Part.{agg}
@@ -41,7 +42,7 @@ use denote.Triple.Statement.{Contract, Triple}
 use denote.Triple.Call.{calls_at}
 use denote.Triple.Clauses.{Clauses, Lasts, closing, lasts}
 use denote.Triple.Table.{entered, cited}
-use denote.Triple.Walked.{says, Stays, stay_none, walk_of, AllGo, Goes-none, Walks, ends_at, walked, walk_Meets}
+use denote.Triple.Walked.{says, Stays, stay_none, walk_of, Goes-none, Walks, ends_at, walked, walk_Meets}
 use denote.Exit.{yes}
 use Rattle.versions.specs.declared.VersionRecord.{VersionRecord}
 use Rattle.versions_runs.specs.declared.Numbered.{Numbered}
@@ -57,10 +58,12 @@ use Rattle.versions_runs.specs.contracts.begin as begin
 use Rattle.probe.specs.contracts.lent.begin_by_value as begun
 
 -- ---- the code: local 0 is what is returned, 1 the record passed, 2 the one that is lent, 3 the answer, 4 the reference, 5 the record left
-abbrev code : Name → Fn
+abbrev code : Callee → Fn
 code g = record {
   lifetimes = 0;
   outlives = [];
+  ty_params = [];
+  givens = 0;
   params = 1;
   locals = local turned-laws.mir value_local
       ∷ local version-laws.mir value_local
@@ -117,7 +120,7 @@ module _ {M : Type 1} (Turns : VersionRecord → Turned → Type 0) (𝓤 : Ura 
     abbrev turned_lawful : Lawful 𝓛 turned.the_row
     turned_lawful = struct.lawful turned.the_type turned-laws.the_laws 𝓛
 
-    module _ (C : Calls 𝓤 H) (Λ : Loops 𝓤 H) (framed : FmC 𝓤 H 𝓛.laws C) (g : Name) (known : Triple 𝓤 (C g) Lent) (v : VersionRecord) where
+    module _ (C : Calls 𝓤 H) (Λ : Loops 𝓤 H) (framed : FmC 𝓤 H 𝓛.laws C) (g : Callee) (known : Triple 𝓤 (C g) Lent) (v : VersionRecord) where
       abbrev Post : Val → SProp 𝓤
       Post = (walk_of 𝓛 begun.ended stayed by_value).post ((tt, tt, tt, (v, tt), (record_value v ∷ [], tt)), tt)
 
@@ -137,24 +140,24 @@ module _ {M : Type 1} (Turns : VersionRecord → Turned → Type 0) (𝓤 : Ura 
       unfolding part_of
       walk was =
           qed 𝓛 (‵ ftrue ∷ ‵ (owns (versions.the_row ∷ []) (v, tt) (record_value v ∷ [], tt)) ∷ []) ∵ drop ! $ drop ! $
-          enter ! C Λ (code g) (record_value v ∷ []) _ $ alloc1 ! (λ _. alloc1 ! (λ _. alloc1 ! (λ lent_at_lem. alloc1 ! (λ answer_at. alloc1 ! (λ _. alloc1 ! (λ _. alloc0 ! $
+          enter ! C Λ (code g) (record_value v ∷ []) _ $ alloc1 ! (λ _. alloc1 ! (λ _. alloc1 ! (λ lent_at. alloc1 ! (λ answer_at. alloc1 ! (λ _. alloc1 ! (λ _. alloc0 ! $
           params1 ! $ pass1 ! (init ! 8 refl (record_lawful.typed v _ was).0) $ pass0 ! $
           -- has: local 5 and what frees it, .., 0 likewise
           assigns ! (of_opd ! (load ! (from ! (stop !)) (look ! 8 refl))) (from ! (stop !)) (init ! 6 refl (record_lawful.typed v _ was).0) $
           assigns ! (addr ! (from ! (stop !))) (from ! (stop !)) (init ! 2 refl (tt, tt)) $
           -- local 2 is lent for a lifetime ν of the call
-          move ! (6 ∷ []) $ use1 𝓛 (‵ (cell_at full_share (versions.the_row).mir (record_value v ∷ []) lent_at_lem 0)) (𝓛.laws.at_raw full_share version-laws.mir lent_at_lem 0 (record_value v)) $
+          move ! (6 ∷ []) $ use1 𝓛 (‵ (cell_at full_share (versions.the_row).mir (record_value v ∷ []) lent_at 0)) (𝓛.laws.at_raw full_share version-laws.mir lent_at 0 (record_value v)) $
           owned ! versions.the_row (Is versions.the_row) (struct.makes versions.the_type version-laws.the_plain 𝓛) v _ was $ move ! (1 ∷ 0 ∷ []) $ fjoin ! $
-          fpack ! (List Val) (λ us. fsep (cell_at full_share (versions.the_row).mir us lent_at_lem 0) ((versions.the_row).own_val v us)) (record_value v ∷ []) $
+          fpack ! (List Val) (λ us. fsep (cell_at full_share (versions.the_row).mir us lent_at 0) ((versions.the_row).own_val v us)) (record_value v ∷ []) $
           lft_new ! tt (λ ν. move ! (1 ∷ []) $
-          use1 𝓛 (later (some (λ (γ : GName). ‵ ((MutRef (named 0) (ν ∷ []) versions.the_row).own_val (record { ref_ptr = (lent_at_lem, 0); ghost_name = γ; now = v }) (vptr lent_at_lem 0 ∷ [])) ⊛ ‵ (flent (ν ∷ []) (Body (mem versions.the_row) lent_at_lem 0 γ)))))
-          (lends_ref 𝓛 versions.the_row (named 0) (ν ∷ []) v lent_at_lem 0) $ await ! tt $ pick ! (λ γ. split ! $
+          use1 𝓛 (later (some (λ (γ : GName). ‵ ((MutRef (named 0) (ν ∷ []) versions.the_row).own_val (record { ref_ptr = (lent_at, 0); ghost_name = γ; now = v }) (vptr lent_at 0 ∷ [])) ⊛ ‵ (flent (ν ∷ []) (Body (mem versions.the_row) lent_at 0 γ)))))
+          (lends_ref 𝓛 versions.the_row (named 0) (ν ∷ []) v lent_at 0) $ await ! tt $ pick ! (λ γ. split ! $
           -- has: the reference, the lender's part, the token; the locals from 3, but for 2's cell
           nothing ! $ move ! (1 ∷ 0 ∷ []) $ join ! $ nothing ! $ move ! (3 ∷ 0 ∷ []) $ join ! $ join ! $ nothing ! $ move ! (1 ∷ 0 ∷ []) $ join ! $
-          use1 𝓛 (raw (Lent.pre (to_g ν lent_at_lem γ))) (id⊢ 𝓤 _) $
-          calls_at ! framed Lent known (to_g ν lent_at_lem γ) (and_then ! (load ! (from ! (stop !)) (look ! 4 refl)) (no_more !)) (λ u.
-          use1 𝓛 (later (some (of_g ν lent_at_lem γ u))) (id⊢ 𝓤 _) $ await ! tt $ pick ! (λ r.
-          split ! $ move ! (1 ∷ []) $ pick ! (λ ws. split ! $ move ! (1 ∷ []) $ heard ! (Turns v (leaving r ws.0)) (λ turns. fsplit ! $ move ! (2 ∷ []) $ split ! $
+          use1 𝓛 (raw (Lent.pre (to_g ν lent_at γ))) (id⊢ 𝓤 _) $
+          calls_at ! framed Lent known (to_g ν lent_at γ) (and_then ! (load ! (from ! (stop !)) (look ! 4 refl)) (no_more !)) (λ u.
+          use1 𝓛 (later (some (of_g ν lent_at γ u))) (id⊢ 𝓤 _) $ await ! tt $ pick ! (λ r.
+          split ! $ move ! (1 ∷ []) $ pick ! (λ ws. split ! $ move ! (1 ∷ []) $ heard ! (Turns v (leaving r ws.0)) (λ turns. fsplit ! $ fsplit ! $ move ! (1 ∷ []) $ drop ! $ move ! (2 ∷ []) $ split ! $
           move ! (1 ∷ []) $ peeks ! numbered.the_row (Is numbered.the_row) (shows 𝓛 numbered.the_row) r (u ∷ []) (λ is.
           land ! (from ! (stop !)) (init ! 9 refl (answer_lawful.typed r _ is).0) $
           rewrite ! 9 (λ (w : Val). ‵ (fat full_share numbered-laws.mir answer_at 0 w)) (ap only (enum.tells numbered.the_type numbered-laws.the_laws r _ is)) refl $
@@ -162,11 +165,11 @@ module _ {M : Type 1} (Turns : VersionRecord → Turned → Type 0) (𝓤 : Ura 
           peeks ! numbered.the_row (Is numbered.the_row) (shows 𝓛 numbered.the_row) r (answer_value r ∷ []) (λ answer_is. drop ! $
           -- the lifetime ends, and the record comes back
           split ! $ lft_end ! tt $ move ! (0 ∷ 4 ∷ 2 ∷ []) $
-          use3 𝓛 (later (‵ ((mem versions.the_row).own_at ws.0 lent_at_lem 0))) (ref_back 𝓛 versions.the_row (ν ∷ []) γ ws.0 lent_at_lem 0) $ await ! tt $ fpick ! (λ vs. fsplit ! $
+          use3 𝓛 (later (‵ ((mem versions.the_row).own_at ws.0 lent_at 0))) (ref_back 𝓛 versions.the_row (ν ∷ []) γ ws.0 lent_at 0) $ await ! tt $ fpick ! (λ vs. fsplit ! $
           spelt ! versions.the_row (Is versions.the_row) (shows 𝓛 versions.the_row)
-          (struct.vals versions.the_type version-laws.the_laws) (struct.tells versions.the_type version-laws.the_laws) full_share ws.0 vs lent_at_lem 0 $
+          (struct.vals versions.the_type version-laws.the_laws) (struct.tells versions.the_type version-laws.the_laws) full_share ws.0 vs lent_at 0 $
           move ! (1 ∷ []) $ peeks ! versions.the_row (Is versions.the_row) (shows 𝓛 versions.the_row) ws.0 (record_value ws.0 ∷ []) (λ left. drop ! $
-          use1 𝓛 (‵ (fat full_share version-laws.mir lent_at_lem 0 (record_value ws.0))) (𝓛.laws.raw_at full_share version-laws.mir lent_at_lem 0 (record_value ws.0)) $
+          use1 𝓛 (‵ (fat full_share version-laws.mir lent_at 0 (record_value ws.0))) (𝓛.laws.raw_at full_share version-laws.mir lent_at 0 (record_value ws.0)) $
           -- has: local 2; nothing, twice; the locals from 3, but for 2's cell
           assigns ! (of_opd ! (load ! (from ! (stop !)) (look ! 0 refl))) (from ! (stop !)) (init ! 3 refl (record_lawful.typed ws.0 _ left).0) $
           assigns ! (agg ! (and_then ! (load ! (from ! (stop !)) (look ! 7 refl)) (and_then ! (load ! (from ! (stop !)) (look ! 3 refl)) (no_more !)))) (from ! (stop !))
@@ -178,7 +181,7 @@ module _ {M : Type 1} (Turns : VersionRecord → Turned → Type 0) (𝓤 : Ura 
           owned ! turned.the_row (Is turned.the_row) (struct.makes turned.the_type turned-laws.the_plain 𝓛) (leaving r ws.0) _ (turned_is r ws.0 answer_is left) $
           owned ! versions.the_row (Is versions.the_row) (struct.makes versions.the_type version-laws.the_plain 𝓛) v _ was $ nothing ! $ move ! (1 ∷ 0 ∷ []) $ fjoin ! $ nothing ! $ done !))))))))))))))))
 
-    walks : (C : Calls 𝓤 H) (Λ : Loops 𝓤 H) (framed : FmC 𝓤 H 𝓛.laws C) (g : Name) (known : Triple 𝓤 (C g) Lent) → Walks 𝓛 begun.ended stayed (WpFn 𝓤 H C Λ (code g)) by_value
+    walks : (C : Calls 𝓤 H) (Λ : Loops 𝓤 H) (framed : FmC 𝓤 H 𝓛.laws C) (g : Callee) (known : Triple 𝓤 (C g) Lent) → Walks 𝓛 begun.ended stayed (WpFn 𝓤 H C Λ (code g)) by_value
     walks C Λ framed g known =
         walked 𝓛 begun.ended stayed by_value (WpFn 𝓤 H C Λ (code g))
         (λ κs. (struct.vals versions.the_type version-laws.the_laws, tt)) (λ κs. (struct.tells versions.the_type version-laws.the_laws, tt))
@@ -186,7 +189,7 @@ module _ {M : Type 1} (Turns : VersionRecord → Turned → Type 0) (𝓤 : Ura 
 
 -- ---- from g's routine to the function f that has the code
 pub lending_meets : {M : Type 1} (Turns : VersionRecord → Turned → Type 0)
-    (𝓤 : Ura M) (𝓛 : Logic 𝓤) (𝓜 : Model 𝓤 𝓛.H) (𝓡 : Running 𝓤 𝓛.H 𝓜) (env : Env) (f g : Name) (r : Routine)
+    (𝓤 : Ura M) (𝓛 : Logic 𝓤) (𝓜 : Model 𝓤 𝓛.H) (𝓡 : Running 𝓤 𝓛.H 𝓜) (env : Env) (f g : Callee) (r : Routine)
     → env g ≡ r → Closed 𝓤 𝓛.H (tables 𝓤 𝓛.H 𝓜 𝓡 env).C (tables 𝓤 𝓛.H 𝓜 𝓡 env).Λ f (code g)
     → Triple 𝓤 (𝓡.run r) (Lent Turns 𝓤 𝓛) → Triple 𝓤 ((tables 𝓤 𝓛.H 𝓜 𝓡 env).C f) (ByValue Turns 𝓤 𝓛)
 unfolding tables_of

@@ -1,5 +1,5 @@
 -- `table_walks::is_broken_at`: its operation word says which of the two tests the slot at the place can pass. Assumes nothing.
-use Rattle.std.proofs.Common.{rules, ◌≡◌, sym, ap, ◌∙◌, Bool, true, false, not, ◌+◌, ◌*◌, w64, SFits}
+use Rattle.std.proofs.Common.{rules, ◌≡◌, sym, ap, ◌∙◌, true, false, not, ◌+◌, ◌*◌, w64, SFits}
 use Rattle.laws.specs.Order.{from_to}
 use Rattle.laws.specs.Bits.{plain}
 use Rattle.table.specs.Slots.{slot_words, operation_place, word, slot_at}

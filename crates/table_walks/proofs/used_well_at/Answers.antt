@@ -1,6 +1,6 @@
 -- `table_walks::used_well_at`: its three tests are those of the definition that its operation leaves to be asked, each of words of the
 -- table, which are the slot's (`slot_from_lem`); the words fit, so bits are numbers. Assumes nothing.
-use Rattle.std.proofs.Common.{rules, ◌≡◌, sym, ◌∙◌, Bool, true, false, not, ◌||◌, ◌*◌, w64, SFits, pos}
+use Rattle.std.proofs.Common.{rules, ◌≡◌, sym, ◌∙◌, true, not, ◌||◌, ◌*◌, w64, SFits, pos}
 use Rattle.laws.specs.Order.{eq_z, from_to}
 use Rattle.laws.specs.Bits.{plain, eq_bits}
 use Rattle.versions.specs.Record.{last_run}
