@@ -244,7 +244,7 @@ pub record RollBackRefuses (n : ℕ) (t : List ℤ) (v : VersionRecord) (r : Num
 
 pub record RollBackAccepts (t : List ℤ) (v : VersionRecord) (r : Numbered) (v' : VersionRecord) (t' : List ℤ) : Type 0 where
   pub answer : r ≡ Version v.current
-  pub record_after_lem : v' ≡ rolled_back_from v
+  pub record_after : v' ≡ rolled_back_from v
   pub words : t' ≡ slots_back t v (slots t)
 
 module _ (t : List ℤ) (v : VersionRecord) where
@@ -255,7 +255,7 @@ module _ (t : List ℤ) (v : VersionRecord) where
 
   pub roll_back_accepts : roll_back_refusal t v ≡ 0 → RollBackAccepts t v (roll_back_answer t v) (roll_back_record t v) (roll_back_words t v)
   unfolding roll_back_answer roll_back_record roll_back_words
-  roll_back_accepts h = record { answer = rw h; record_after_lem = rw h; words = rw h }
+  roll_back_accepts h = record { answer = rw h; record_after = rw h; words = rw h }
 
 -- ---- the contract allows one outcome
 pub one_outcome : {t : List ℤ} {v : VersionRecord} {r r' : Turned} {u u' : List ℤ}

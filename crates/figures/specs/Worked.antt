@@ -4,7 +4,6 @@
 -- that run 3 freed. Assumes nothing.
 use Rattle.std.specs.Prelude.{◌≡◌, refl, false, pos}
 use mathlib.Core.List.{List, [], ◌∷◌, Perm}
-use mathlib.Core.List as L
 use Rattle.std.proofs.Common.{arith}
 use Rattle.laws.specs.Tests.{all, any}
 use Rattle.laws.specs.First.{first}
@@ -107,7 +106,7 @@ pub record Worked : Type 0 where
   -- changes that are refused: a delete of an absent key, a put of totals that are not lawful, and a delete with no run
   pub absent : answer_of {K = two_versions} (delete (pos 2) (pos 14)) in2 ≡ answer.placed (placed.Refused 11)
   pub not_lawful : answer_of {K = two_versions} (put (pos 1) (pos 14) (pos 0) (pos 1000000000000001)) in3 ≡ answer.placed (placed.Refused 13)
-  pub no_run_lem : answer_of {K = two_versions} (delete (pos 1) (pos 14)) at2 ≡ answer.placed (placed.Refused 8)
+  pub no_run : answer_of {K = two_versions} (delete (pos 1) (pos 14)) at2 ≡ answer.placed (placed.Refused 8)
   -- versions 1 and 2 are committed; version 2 is not gone in run 3, and gone in run 4
   pub committed_first : Committed at2.told 1
   pub committed : Committed at2.told 2
@@ -139,7 +138,7 @@ worked = record {
   no_load = (refl, (refl, (refl, (refl, (refl, tt)))));
   absent = refl;
   not_lawful = refl;
-  no_run_lem = refl;
+  no_run = refl;
   committed_first = record { from = omega arith; to = omega arith };
   committed = record { from = omega arith; to = omega arith };
   not_gone = λ h. omega arith;

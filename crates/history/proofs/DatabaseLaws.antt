@@ -6,7 +6,6 @@ use mathlib.Core.Bool.{Bool, true, false, cond, not, ◌&&◌, ◌||◌, or_asso
 use mathlib.Core.Logic.{∥∥₁_elim}
 use mathlib.Core.List.Permᴰ
 use mathlib.Core.List.{[], ◌∷◌, ◌++◌, map, Perm, Permᴰ}
-use mathlib.Core.List as L
 use Prim.Native.Nat.{suc}
 use native.Mathlib.Nat.{ℕ_set}
 use lib.IntN.{ℤ, ◌+ℤ◌, +ℤ_comm, +ℤ_assoc, ℤ_set}

@@ -123,7 +123,7 @@ module _ {K : Kind} (A : Argument K) where
       begun = λ call e. ap (λ x. running (hear x w.told)) e;
       changed = λ call l e. ap (λ x. running (hear x w.told)) e ∙ running_with l w.told;
       committed = λ call e. ap (λ x. database_at (hear x w.told) (suc (current w.told))) e ∙ last_database w.told;
-      rolled_back_lem = λ call e. ap (λ x. running (hear x w.told)) e;
+      rolled_back = λ call e. ap (λ x. running (hear x w.told)) e;
       made = run_made w.told;
       kept = λ s c h no_load. (after_step A m w i h no_load).step.grows.databases s c;
       settled = λ idle. ap (λ l. made_by l (database_at w.told (current w.told))) (i.inv.settled idle);

@@ -32,12 +32,12 @@ runs m w i =
           let more : eq_z v.current largest_version ≡ false = rw x.version (ne_eqb (current w.told) 1000000000 (omega arith)) in
           ap answer.numbered ((begin_accepts v (begin_left v x.known ∙ skip 7 _ (x.active ∙ idle) ∙ skip 9 _ more ∙ done)).answer ∙ next);
       begun_already = λ a. ap answer.numbered (begin_refuses v 6 (begin_left v x.known ∙ hit _ (x.active ∙ a))).answer;
-      no_version_left_lem = λ idle last.
+      no_version_left = λ idle last.
           let none : eq_z v.current largest_version ≡ true = rw x.version (eq-eqb (current w.told) 1000000000 (omega arith)) in
           ap answer.numbered (begin_refuses v 8 (begin_left v x.known ∙ skip 7 _ (x.active ∙ idle) ∙ hit _ none)).answer;
       committed = λ a. ap answer.numbered ((commit_accepts v (commit_left v x.known ∙ skip 8 _ (ap not (x.active ∙ a)) ∙ done)).answer ∙ next);
-      no_run_lem = λ idle. ap answer.numbered (commit_refuses v 7 (commit_left v x.known ∙ hit _ (ap not (x.active ∙ idle)))).answer;
-      rolled_back_lem = λ a. ap answer.numbered
+      no_run = λ idle. ap answer.numbered (commit_refuses v 7 (commit_left v x.known ∙ hit _ (ap not (x.active ∙ idle)))).answer;
+      rolled_back = λ a. ap answer.numbered
           ((roll_back_accepts t v (roll_back_passes t v (record { shape = whole.shape; known = x.known; active = x.active ∙ a; formed = whole.formed }))).answer
           ∙ ap Version x.version);
       nothing_to_roll_back = λ idle. ap answer.numbered (roll_back_refuses t v 7 (roll_back_idle t v whole.shape x.known (x.active ∙ idle))).answer;

@@ -5,7 +5,6 @@ use mathlib.Core.Path.{◌≡◌, refl, sym, ◌∙◌}
 use mathlib.Core.Bool.{true, false}
 use mathlib.Core.List.Permᴰ
 use mathlib.Core.List.{◌++◌, Permᴰ}
-use mathlib.Core.List as L
 use Prim.Native.Nat.{ℕ, suc, ◌<◌}
 use lib.Dec.{eqb}
 use lib.IntN.{ℤ}

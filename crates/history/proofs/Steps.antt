@@ -62,7 +62,7 @@ module _ (m : ℕ) (w : TableWorld) (i : Well m w) where
       → Goes m w (record { state = with_version w.state v'; told = hear (if_accepted (answer.numbered r) x) w.told })
   turn x r v' later zero refuse accept sound step =
       let ok = accept refl in
-      record { sound = rw (ok.answer, ok.record_after_lem) (sound refl); step = rw ok.answer (step refl) }
+      record { sound = rw (ok.answer, ok.record_after) (sound refl); step = rw ok.answer (step refl) }
   turn x r v' later (suc n) refuse accept sound step =
       let no_turn = refuse n refl in
       quiet _ refl no_turn.record_kept (rw (no_turn.answer, eqb-suc-zero n) refl)
@@ -73,7 +73,7 @@ module _ (m : ℕ) (w : TableWorld) (i : Well m w) where
       let ok = roll_back_accepts w.state.words w.state.versions e in
       rw ok.answer
       (record {
-        sound = rw (ok.record_after_lem, ok.words) (back-sound i.sound i.inv e);
+        sound = rw (ok.record_after, ok.words) (back-sound i.sound i.inv e);
         step = rw ok.words (undo_step i.inv (back_fewer i.sound i.inv e) (back_stays i.sound i.inv e));
       })
   undone (suc n) e =

@@ -37,10 +37,10 @@ module _ {K : Kind} where
     pub opened : answer_of K.open_session w ≡ answer.numbered (numbered.Version (pos (current w.told)))
     pub begun : w.told.active ≡ false → current w.told < nat_abs largest_version → answer_of K.begin w ≡ answer.numbered (numbered.Version (pos (suc (current w.told))))
     pub begun_already : w.told.active ≡ true → answer_of K.begin w ≡ answer.numbered (numbered.Refused refusal.run_active)
-    pub no_version_left_lem : w.told.active ≡ false → nat_abs largest_version ≤ current w.told → answer_of K.begin w ≡ answer.numbered (numbered.Refused refusal.no_version_left)
+    pub no_version_left : w.told.active ≡ false → nat_abs largest_version ≤ current w.told → answer_of K.begin w ≡ answer.numbered (numbered.Refused refusal.no_version_left)
     pub committed : w.told.active ≡ true → answer_of K.commit w ≡ answer.numbered (numbered.Version (pos (suc (current w.told))))
-    pub no_run_lem : w.told.active ≡ false → answer_of K.commit w ≡ answer.numbered (numbered.Refused refusal.no_run)
-    pub rolled_back_lem : w.told.active ≡ true → answer_of K.roll_back w ≡ answer.numbered (numbered.Version (pos (current w.told)))
+    pub no_run : w.told.active ≡ false → answer_of K.commit w ≡ answer.numbered (numbered.Refused refusal.no_run)
+    pub rolled_back : w.told.active ≡ true → answer_of K.roll_back w ≡ answer.numbered (numbered.Version (pos (current w.told)))
     pub nothing_to_roll_back : w.told.active ≡ false → answer_of K.roll_back w ≡ answer.numbered (numbered.Refused refusal.no_run)
 
   -- ---- a read of a key, and a roll-up, at a committed version s answers from database s, and is refused as expired exactly when
@@ -117,7 +117,7 @@ module _ {K : Kind} where
     pub begun : (call : K.Call) → heard_of call w ≡ began_run → running (next call w).told ≡ database_at w.told (current w.told)
     pub changed : (call : K.Call) (l : List Change) → heard_of call w ≡ went_in l → running (next call w).told ≡ made_by l (running w.told)
     pub committed : (call : K.Call) → heard_of call w ≡ committed_run → database_at (next call w).told (suc (current w.told)) ≡ running w.told
-    pub rolled_back_lem : (call : K.Call) → heard_of call w ≡ rolled_back_run → running (next call w).told ≡ database_at w.told (current w.told)
+    pub rolled_back : (call : K.Call) → heard_of call w ≡ rolled_back_run → running (next call w).told ≡ database_at w.told (current w.told)
     pub made : (v : ℕ) → Committed w.told v → Committed w.told (suc v) → database_at w.told (suc v) ≡ made_by (changes_of w.told (suc v)) (database_at w.told v)
     pub kept : (s : ℕ) → Committed w.told s → (h : List K.Call) → NoLoad h w → database_at (after h w).told s ≡ database_at w.told s
     pub settled : w.told.active ≡ false → running w.told ≡ database_at w.told (current w.told)

@@ -42,6 +42,7 @@ pub struct Taken {
 }
 
 // A byte of a line is kept where there is room for it.
+#[tactic(auto, using(crate::specs::StandingLaws::kept_on, crate::specs::StandingLaws::kept_full))]
 fn keep_byte(line: &mut [u8], kept: usize, byte: u8) -> usize
     requires whole_line { length line.old ≡ line_bytes }
     requires within_line { kept ≤ line_bytes }

@@ -49,15 +49,15 @@ commit_refuses v n h = record { answer = rw h; record_kept = rw h }
 
 pub record TurnAccepts (v : VersionRecord) (r : Numbered) (v' after : VersionRecord) : Type 0 where
   pub answer : r ≡ Version (run_number v)
-  pub record_after_lem : v' ≡ after
+  pub record_after : v' ≡ after
 
 pub begin_accepts : (v : VersionRecord) → begin_refusal v ≡ 0 → TurnAccepts v (begin_answer v) (begin_record v) (begun_from v)
 unfolding begin_answer begin_record
-begin_accepts v h = record { answer = rw h; record_after_lem = rw h }
+begin_accepts v h = record { answer = rw h; record_after = rw h }
 
 pub commit_accepts : (v : VersionRecord) → commit_refusal v ≡ 0 → TurnAccepts v (commit_answer v) (commit_record v) (committed_from v)
 unfolding commit_answer commit_record
-commit_accepts v h = record { answer = rw h; record_after_lem = rw h }
+commit_accepts v h = record { answer = rw h; record_after = rw h }
 
 -- ---- an accepted begin: the record is sound, no run is active, and a version is left
 pub record CanBegin (v : VersionRecord) : Type 0 where
