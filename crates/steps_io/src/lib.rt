@@ -160,13 +160,7 @@ fn take_all<R: Read, W: Write>(
 }
 
 // The last line, where all replies before it were taken.
-fn take_last<W: Write>(
-    sink: &mut W,
-    table: &mut [i64],
-    line: &[u8],
-    buffer: &mut [u8],
-    step: Step,
-)
+fn take_last<W: Write>(sink: &mut W, table: &mut [i64], line: &[u8], buffer: &mut [u8], step: Step)
     requires { Ready step.progress line.now buffer.old }
     ensures { CarriedLast table.old line.now buffer.old step table.new }
 {

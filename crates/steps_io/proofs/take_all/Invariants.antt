@@ -7,7 +7,7 @@ use Rattle.steps_io.proofs.take_all.Given as goal
 abbrev pub invariant-loop-turns : goal.invariant-loop-turns
 invariant-loop-turns g l = record {
   held : HeldOver l.initial.table l.initial.line l.initial.buffer l.table l.line l.buffer l.step.progress;
-  carried : CarriedSome l.initial.table l.initial.line l.initial.buffer l.initial.step.progress l.table l.line l.buffer l.step.progress
+  carried : CarriedSome l.initial.table l.initial.line l.initial.buffer l.initial.step.progress l.table l.line l.buffer l.step.progress;
 }
 
 abbrev pub decreases-loop-turns : goal.decreases-loop-turns

@@ -9,7 +9,7 @@ abbrev pub invariant-loop-from : goal.invariant-loop-from
 invariant-loop-from g l = record {
   within : l.from ≤ length l.input;
   held : HeldOver l.initial.table l.initial.line l.initial.buffer l.table l.line l.buffer l.progress;
-  carried : Carried l.initial.table l.initial.line l.initial.buffer l.initial.progress (take l.from l.input) l.table l.line l.buffer l.progress
+  carried : Carried l.initial.table l.initial.line l.initial.buffer l.initial.progress (take l.from l.input) l.table l.line l.buffer l.progress;
 }
 
 abbrev pub decreases-loop-from : goal.decreases-loop-from
