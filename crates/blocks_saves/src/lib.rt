@@ -55,7 +55,8 @@ pub fn save_slots(table: &[i64], versions: VersionRecord, number: usize) -> Save
     let mut j: usize = 0;
     while j < BLOCK_SLOTS {
         let x = table::slot_at(table, from + j);
-        if table_forms::is_broken(x, versions) {
+        let broken = table_forms::is_broken(x, versions);
+        if broken {
             return refused(refusals::BROKEN_SLOT);
         }
         check = longs::write_slot(&mut block, j, x, check);

@@ -88,7 +88,7 @@ fn tested_refusal(table: &[i64], versions: VersionRecord, session: i64) -> u32
     if versions::bad_record(versions) {
         return refusals::BAD_RECORD;
     }
-    // Both are asked before either is answered, so that their order is one place, which must-fail/refusal_4_before_3.edit changes.
+    // Both are asked before either is answered, so that their order is one place, where must-fail/refusal_4_before_3.edit changes it.
     let unborn = versions::is_unborn(versions, session);
     let expired = versions::is_expired(versions, session);
     if unborn {

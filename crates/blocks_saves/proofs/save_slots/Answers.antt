@@ -26,19 +26,19 @@ loop-j-init c = record {
   formed = λ i h. absurd (omega arith);
 }
 
-pub returns-then-is_broken : goal.returns-then-is_broken
-returns-then-is_broken c =
-    let tested = rw c.slot_at-x.ensures at c.is_broken.ensures in
-    rw (slot-broken _ _ _ c.loop-j.j (omega arith) (sym tested ∙ c.if-is_broken.true)) (zeros_handed _ c.refused.ensures (omega arith))
+pub returns-then-broken : goal.returns-then-broken
+returns-then-broken c =
+    let tested = rw c.slot_at-x.ensures at c.is_broken-broken.ensures in
+    rw (slot-broken _ _ _ c.loop-j.j (omega arith) (sym tested ∙ c.if-broken.true)) (zeros_handed _ c.refused.ensures (omega arith))
 
 pub loop-j-preserved : goal.loop-j-preserved
 loop-j-preserved c =
     let a = c.args in
-    let tested = rw c.slot_at-x.ensures at c.is_broken.ensures in
+    let tested = rw c.slot_at-x.ensures at c.is_broken-broken.ensures in
     record {
       within = omega arith;
       written = slot-written a.table.now a.number c.loop-j.j c.loop-j.invariant.written (rw c.slot_at-x.ensures at c.write_slot-check.ensures);
-      formed = below_next {p = broken_at a.table.now a.versions a.number} c.loop-j.invariant.formed (sym tested ∙ c.if-is_broken.false);
+      formed = below_next {p = broken_at a.table.now a.versions a.number} c.loop-j.invariant.formed (sym tested ∙ c.if-broken.false);
     }
 
 pub returns : goal.returns

@@ -15,15 +15,6 @@ unfolding session_refusal
 returns-then-bad_record c =
     sym (skip _ _ (sym c.bad_table.ensures ∙ c.if-bad_table.false) ∙ hit _ (sym c.bad_record.ensures ∙ c.if-bad_record.true))
 
-pub returns-then-unborn : goal.returns-then-unborn
-unfolding session_refusal
-returns-then-unborn c =
-    let unborn = rw (plain _ c.ranges.session) at c.is_unborn-unborn.ensures in
-    sym
-    (skip _ _ (sym c.bad_table.ensures ∙ c.if-bad_table.false)
-    ∙ skip _ _ (sym c.bad_record.ensures ∙ c.if-bad_record.false)
-    ∙ hit _ (sym unborn ∙ c.if-unborn.true))
-
 pub returns-then-expired : goal.returns-then-expired
 unfolding session_refusal
 returns-then-expired c =
@@ -34,6 +25,15 @@ returns-then-expired c =
     ∙ skip _ _ (sym c.bad_record.ensures ∙ c.if-bad_record.false)
     ∙ skip _ _ (sym unborn ∙ c.if-unborn.false)
     ∙ hit _ (sym expired ∙ c.if-expired.true))
+
+pub returns-then-unborn : goal.returns-then-unborn
+unfolding session_refusal
+returns-then-unborn c =
+    let unborn = rw (plain _ c.ranges.session) at c.is_unborn-unborn.ensures in
+    sym
+    (skip _ _ (sym c.bad_table.ensures ∙ c.if-bad_table.false)
+    ∙ skip _ _ (sym c.bad_record.ensures ∙ c.if-bad_record.false)
+    ∙ hit _ (sym unborn ∙ c.if-unborn.true))
 
 pub returns : goal.returns
 unfolding session_refusal

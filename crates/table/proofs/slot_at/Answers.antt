@@ -1,4 +1,4 @@
--- `table::slot_at`: a slot past the end is empty (`slot_at_past`); of any other each word is read at its place, and fits.
+-- `table::slot_at`: a slot past the end is empty (`slot_at-past`); of any other each word is read at its place, and fits.
 -- Assumes nothing.
 use Rattle.std.proofs.Common.{rules, sym, ◌∙◌, ◌+◌, ◌*◌, w64, SFits, add-zero}
 use Rattle.laws.specs.Bits.{plain}
