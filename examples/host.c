@@ -2,8 +2,8 @@
    reports total two: a mean is of what was reported.
    On x86-64, in the repository's root:
 
-       (cd crates/probe && rt lib)
-       cc -I include -o host examples/host.c crates/probe/out/libprobe.a && ./host */
+       bin/archive
+       cc -I include -o host examples/host.c target/staticlib/libprobe.a && ./host */
 #include <stdio.h>
 #include "probe.h"
 

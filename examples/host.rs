@@ -1,7 +1,7 @@
 //! The host of host.c in Rust. On x86-64, in the repository's root:
 //!
-//!     (cd crates/probe && rt lib)
-//!     rustc --edition 2024 -L crates/probe/out -l static=probe -o host examples/host.rs && ./host
+//!     bin/archive
+//!     rustc --edition 2024 -L target/staticlib -l static=probe -o host examples/host.rs && ./host
 
 // include/probe.h as Rust has it, with the refusal that this host answers to and the total that it gives. A call that takes references alone is safe; beside a pointer the length has to be right.
 const EXPIRED: i64 = 4;

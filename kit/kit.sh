@@ -2,7 +2,7 @@
 # library, a C program that is linked with it, and the command that runs x86-64
 # code. To be sourced in the repository's root.
 
-archive=crates/probe/out/libprobe.a
+archive=target/staticlib/libprobe.a
 processor=x86_64-unknown-linux-gnu
 
 # Ends the script: something could not be found or built.
@@ -27,13 +27,13 @@ is_stale() { # MADE
 }
 
 # The archive is proved and written unless it is newer than all that it is made of.
-# rt leaves it as it was where what is newer does not reach it; so it counts as
+# rt makes it of the crate probe_c and by that name; so it is copied, and counts as
 # made when this began.
 build_archive() {
     local began=target/archive.began
     is_stale "$archive" || return 0
-    mkdir -p target && touch "$began" || exit 2
-    (cd crates/probe && rt lib) || exit 2
+    mkdir -p "$(dirname "$archive")" && touch "$began" || exit 2
+    (cd crates/probe_c && rt lib) && cp crates/probe_c/out/libprobe_c.a "$archive" || exit 2
     touch -r "$began" "$archive"
 }
 
@@ -52,9 +52,7 @@ build_c_program() { # SOURCE ARCHIVE PROGRAM
         -o "$3" "$3.o" "$2" 2>"$3.said" || { cat "$3.said" >&2; exit 2; }
 }
 
-# The command that runs such a program: under the kit's loader and C library and,
-# on another processor, under its emulator.
+# The command that runs such a program: under the kit's loader and C library.
 program_command() { # PROGRAM
     command=("$tools/lib/ld-linux-x86-64.so.2" --library-path "$tools/lib" "$1")
-    [ ! -x "$tools/bin/qemu-x86_64" ] || command=("$tools/bin/qemu-x86_64" "${command[@]}")
 }

@@ -1,6 +1,7 @@
-// Every call of the library as a C function, for hosts in C or Rust and for programs that compare, fuzz or measure it;
-// include/probe.h declares them. The record is four words (current, the run mark, the oldest open version, and one that stays), the
-// answer's numbers go into eight, a saved block into 512 bytes, and each of these is written whole.
+// Every call of the library on numbers alone, for hosts in C or Rust and for programs that compare, fuzz or measure it;
+// the static library `probe_c` exports them, as include/probe.h declares. The record is four words (current, the run mark, the oldest
+// open version, and one that stays), the answer's numbers go into eight, a saved block into 512 bytes, and each of these is written
+// whole.
 #![tactic(auto)]
 
 ghost use Rattle.std.specs.Prelude.{◌≡◌, []};
@@ -12,16 +13,14 @@ mod numbers;
 mod records;
 
 // open: current
-#[unsafe(no_mangle)]
-pub extern "C" fn probe_open(record_words: &[i64; 4], out: &mut [i64; 8])
+pub fn probe_open(record_words: &[i64; 4], out: &mut [i64; 8])
     ensures { out.new ≡ out_after open_session (lent [] record_words.now []) }
 {
     numbers::put_numbered(out, reader::open(records::version_of(record_words)));
 }
 
 // begin: the run's number
-#[unsafe(no_mangle)]
-pub extern "C" fn probe_begin(record_words: &mut [i64; 4], out: &mut [i64; 8])
+pub fn probe_begin(record_words: &mut [i64; 4], out: &mut [i64; 8])
     ensures out_after { out.new ≡ out_after begin (lent [] record_words.old []) }
     ensures record_words_after { record_words.new ≡ record_after begin record_words.old (lent [] record_words.old []) }
 {
@@ -32,8 +31,7 @@ pub extern "C" fn probe_begin(record_words: &mut [i64; 4], out: &mut [i64; 8])
 }
 
 // commit: the new current
-#[unsafe(no_mangle)]
-pub extern "C" fn probe_commit(record_words: &mut [i64; 4], out: &mut [i64; 8])
+pub fn probe_commit(record_words: &mut [i64; 4], out: &mut [i64; 8])
     ensures out_after { out.new ≡ out_after commit (lent [] record_words.old []) }
     ensures record_words_after { record_words.new ≡ record_after commit record_words.old (lent [] record_words.old []) }
 {
@@ -44,8 +42,7 @@ pub extern "C" fn probe_commit(record_words: &mut [i64; 4], out: &mut [i64; 8])
 }
 
 // read a slot: mark 1 and the row, or zeros
-#[unsafe(no_mangle)]
-pub extern "C" fn probe_read_slot(
+pub fn probe_read_slot(
     table: &[i64],
     record_words: &[i64; 4],
     session: i64,
@@ -61,8 +58,7 @@ pub extern "C" fn probe_read_slot(
 }
 
 // read a key: mark 1 and the row, or zeros
-#[unsafe(no_mangle)]
-pub extern "C" fn probe_read_key(
+pub fn probe_read_key(
     table: &[i64],
     record_words: &[i64; 4],
     session: i64,
@@ -85,8 +81,7 @@ pub extern "C" fn probe_read_key(
 }
 
 // roll-up: rows, rows that reported total one, rows that reported total two, sum one, sum two
-#[unsafe(no_mangle)]
-pub extern "C" fn probe_roll_up(
+pub fn probe_roll_up(
     table: &[i64],
     record_words: &[i64; 4],
     session: i64,
@@ -102,8 +97,7 @@ pub extern "C" fn probe_roll_up(
 }
 
 // put: the slot
-#[unsafe(no_mangle)]
-pub extern "C" fn probe_put(
+pub fn probe_put(
     table: &mut [i64],
     record_words: &[i64; 4],
     key1: i64,
@@ -129,8 +123,7 @@ pub extern "C" fn probe_put(
 }
 
 // delete: the slot
-#[unsafe(no_mangle)]
-pub extern "C" fn probe_delete(
+pub fn probe_delete(
     table: &mut [i64],
     record_words: &[i64; 4],
     key1: i64,
@@ -147,12 +140,7 @@ pub extern "C" fn probe_delete(
 }
 
 // roll back: current
-#[unsafe(no_mangle)]
-pub extern "C" fn probe_roll_back(
-    table: &mut [i64],
-    record_words: &mut [i64; 4],
-    out: &mut [i64; 8],
-)
+pub fn probe_roll_back(table: &mut [i64], record_words: &mut [i64; 4], out: &mut [i64; 8])
     ensures out_after { out.new ≡ out_after roll_back (lent table.old record_words.old []) }
     ensures table_after { table.new ≡ table_after roll_back (lent table.old record_words.old []) }
     ensures record_words_after { record_words.new ≡ record_after roll_back record_words.old (lent table.old record_words.old []) }
@@ -164,8 +152,7 @@ pub extern "C" fn probe_roll_back(
 }
 
 // save header: block 0
-#[unsafe(no_mangle)]
-pub extern "C" fn probe_save_header(
+pub fn probe_save_header(
     table: &[i64],
     record_words: &[i64; 4],
     block: &mut [u8; 512],
@@ -181,8 +168,7 @@ pub extern "C" fn probe_save_header(
 }
 
 // save block: block k from 1
-#[unsafe(no_mangle)]
-pub extern "C" fn probe_save_block(
+pub fn probe_save_block(
     table: &[i64],
     record_words: &[i64; 4],
     number: usize,
@@ -199,16 +185,14 @@ pub extern "C" fn probe_save_block(
 }
 
 // load header: slots, current, oldest
-#[unsafe(no_mangle)]
-pub extern "C" fn probe_load_header(block: &[u8], out: &mut [i64; 8])
+pub fn probe_load_header(block: &[u8], out: &mut [i64; 8])
     ensures { out.new ≡ out_after (load_header block.now) (lent [] [] []) }
 {
     numbers::put_header(out, reader::load_header(block));
 }
 
 // load block: its slots
-#[unsafe(no_mangle)]
-pub extern "C" fn probe_load_block(
+pub fn probe_load_block(
     table: &mut [i64],
     record_words: &[i64; 4],
     number: usize,
