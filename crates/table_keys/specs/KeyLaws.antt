@@ -7,9 +7,8 @@ use Rattle.laws.specs.Bits.{plain}
 use Rattle.laws.specs.TestLaws.{all-at, by_test, clash, not_yes, all_yes, all_no}
 use Rattle.laws.specs.OrderLaws.{eq_z_true, eq_z_same}
 use Rattle.laws.specs.Order.{eq_z}
-use Rattle.laws.specs.Below.{four_more}
-use Rattle.laws.specs.LowestLaws.{lowest_is}
-use Rattle.laws.specs.Lowest.{Lowest}
+use Rattle.laws.specs.LowestLaws.{lowest_is, below_four}
+use Rattle.laws.specs.Lowest.{Lowest, EachOfFour}
 use Rattle.table.specs.declared.Slot.{Slot}
 use Rattle.table.specs.Slots.{slot_words, bad_table, slots, slot_at, empty}
 use Rattle.table.specs.SlotLaws.{slot_at-past, key1_at, key2_at}
@@ -17,7 +16,7 @@ use Rattle.table_forms.specs.Operations.{empty_operation}
 use Rattle.table_forms.specs.OperationLaws.{dead_empty}
 use Rattle.table_keys.specs.declared.KeyWord.{KeyWord}
 use Rattle.table_keys.specs.Keys.{has_key, key_slot, keyed, key_live}
-use Rattle.table_keys.specs.KeySearch.{Keyless, IsKeyWord, Apart, FourApart}
+use Rattle.table_keys.specs.KeySearch.{Keyless, IsKeyWord, Apart}
 
 pub key_slot_is : (t : List ℤ) (key1 key2 : ℤ) → Lowest (λ k. has_key (slot_at t k) key1 key2) (slots t) (key_slot t key1 key2)
 unfolding key_slot
@@ -53,10 +52,9 @@ pub word_placed : {c : KeyWord} {key1 key2 : ℤ} → IsKeyWord c key1 key2 → 
 word_placed (inl second) = rw second (lit< tt)
 word_placed (inr first) = rw first (lit< tt)
 
-pub past_four : {t : List ℤ} {k : ℕ} {c : KeyWord} {key1 key2 : ℤ} → IsKeyWord c key1 key2 → FourApart t k c → Keyless t k key1 key2 → Keyless t (k + 4) key1 key2
-past_four {t} {key1} {key2} w f b =
-    four_more {P = λ i. has_key (slot_at t i) key1 key2 ≡ false} b
-    (apart_keyless t w _ f.first) (apart_keyless t w _ f.second) (apart_keyless t w _ f.third) (apart_keyless t w _ f.fourth)
+pub past_four : (t : List ℤ) {k : ℕ} {c : KeyWord} {key1 key2 : ℤ} → IsKeyWord c key1 key2 → EachOfFour (λ j. Apart t j c) k
+    → Keyless t key1 key2 k → Keyless t key1 key2 (k + 4)
+past_four t w f b = below_four (λ j. apart_keyless t w j) f b
 
 -- the empty slot has no key
 pub empty_keyless : (key1 key2 : ℤ) → has_key empty key1 key2 ≡ false

@@ -38,6 +38,7 @@ fn used_well_at(table: &[i64], k: usize, versions: VersionRecord) -> bool
 }
 
 // Refusal 6, of the slot at a place.
+#[tactic(auto, using(laws::specs::Bits::plain, table::specs::SlotLaws::slot_from_lem, table_forms::specs::FormedLaws::formed_used, table_forms::specs::FormedLaws::formed_unused))]
 pub fn is_broken_at(table: &[i64], k: usize, versions: VersionRecord) -> bool
     requires lawful_table { bad_table table.now ≡ false }
     requires in_table { k < slots table.now }
@@ -48,7 +49,7 @@ pub fn is_broken_at(table: &[i64], k: usize, versions: VersionRecord) -> bool
     if (INSERT <= operation) & (operation <= DELETE) {
         return !used_well_at(table, k, versions);
     }
-    !table_forms::all_zeros(table::slot_at(table, k))
+    !table_forms::all_zeros(table::slot_within(table, k))
 }
 
 // Refusal 6, where the call rests on any slot: the pass stops at the first that is broken.
@@ -57,13 +58,5 @@ pub fn any_broken(table: &[i64], versions: VersionRecord) -> bool
     requires lawful_record { bad_record versions ≡ false }
     ensures { result ≡ any_broken table.now versions }
 {
-    let slots = table::slots_of(table);
-    let mut k: usize = 0;
-    while k < slots {
-        if is_broken_at(table, k, versions) {
-            return true;
-        }
-        k += 1;
-    }
-    false
+    (0..table::slots_of(table)).any(|k| is_broken_at(table, k, versions))
 }
