@@ -1,7 +1,8 @@
 -- The tests of saves and loads, in the parts that a function of the code answers for: a list of tests is made of these, and each
 -- test stands once. Assumes nothing.
 use Rattle.std.specs.Prelude.{Bool, List, [], ◌∷◌, ◌++◌, ℕ, ℤ}
-use Rattle.refusals.specs.Refusals as refusal
+use Rattle.refusals.specs.declared.Refusal.{Refusal}
+use Rattle.refusals.specs.declared.Refusal.TheVariants as refusal
 use Rattle.versions.specs.declared.VersionRecord.{VersionRecord}
 use Rattle.versions.specs.Record.{bad_record}
 use Rattle.table.specs.Slots.{bad_table}
@@ -9,13 +10,13 @@ use Rattle.blocks_saves.specs.SlotBlocks.{no_such_block}
 use Rattle.blocks_words.specs.Words.{not_block, check_wrong}
 
 -- 1, 2, 7: a save begins with these
-abbrev pub idle_tests : List ℤ → VersionRecord → List (Bool × ℕ)
-idle_tests t v = (bad_table t, refusal.bad_table) ∷ (bad_record v, refusal.bad_record) ∷ (v.active, refusal.run_active) ∷ []
+abbrev pub idle_tests : List ℤ → VersionRecord → List (Bool × Refusal)
+idle_tests t v = (bad_table t, refusal.BadTable) ∷ (bad_record v, refusal.BadRecord) ∷ (v.active, refusal.RunActive) ∷ []
 
 -- 1, 2, 7, 5: one of a block of slots, and its load, begin with these
-abbrev pub block_tests : List ℤ → VersionRecord → ℕ → List (Bool × ℕ)
-block_tests t v k = idle_tests t v ++ (no_such_block t k, refusal.no_such_place) ∷ []
+abbrev pub block_tests : List ℤ → VersionRecord → ℕ → List (Bool × Refusal)
+block_tests t v k = idle_tests t v ++ (no_such_block t k, refusal.NoSuchPlace) ∷ []
 
 -- 14, 15, 16: a load ends with these; the last is whether the words of its block are wrong
-abbrev pub end_tests : List ℕ → Bool → List (Bool × ℕ)
-end_tests block wrong = (not_block block, refusal.not_block) ∷ (check_wrong block, refusal.wrong_check) ∷ (wrong, refusal.bad_field) ∷ []
+abbrev pub end_tests : List ℕ → Bool → List (Bool × Refusal)
+end_tests block wrong = (not_block block, refusal.NotBlock) ∷ (check_wrong block, refusal.WrongCheck) ∷ (wrong, refusal.BadField) ∷ []

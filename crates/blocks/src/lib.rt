@@ -3,136 +3,122 @@
 #![tactic(auto)]
 
 ghost use Rattle.std.specs.Prelude.{◌≡◌};
-ghost use Rattle.laws.specs.First.{first};
+ghost use Rattle.laws.specs.First.{first, unless};
 ghost use Rattle.blocks.specs.BlockTests.{idle_tests, block_tests};
 ghost use Rattle.blocks.specs.SaveHeader.{SaveHeaderContract};
 ghost use Rattle.blocks.specs.SaveBlock.{SaveBlockContract};
 ghost use Rattle.blocks.specs.LoadHeader.{LoadHeaderContract};
 ghost use Rattle.blocks.specs.LoadBlock.{LoadBlockContract};
 
-use blocks_saves::Saved;
+use refusals::Refusal;
 use versions::VersionRecord;
 
 // The bytes of a block.
 pub const BLOCK_BYTES: usize = 512;
 
-// What load header answers: slots, current and the oldest open version, or a refusal.
-#[derive(Clone, Copy)]
-pub enum Header {
-    Holds {
-        slots: u32,
-        current: i64,
-        oldest: i64,
-    },
-    Refused(u32),
+// What load header answers: slots, current and the oldest open version.
+#[derive(Clone, Copy, Debug, PartialEq, Eq)]
+pub struct Header {
+    pub slots: u32,
+    pub current: i64,
+    pub oldest: i64,
 }
 
-// What load block answers: that it is done, or a refusal.
-#[derive(Clone, Copy)]
-pub enum Loaded {
-    Done,
-    Refused(u32),
-}
-
-// The refusals that the list of each save begins with, 0 for none.
-fn idle_refusal(table: &[i64], versions: VersionRecord) -> u32
-    ensures { result ≡ first (idle_tests table.now versions) }
+// The tests that the list of each save begins with: 1, 2, 7.
+fn test_idle(table: &[i64], versions: VersionRecord) -> Result<(), Refusal>
+    ensures { result ≡ unless (first (idle_tests table.now versions)) tt }
 {
     if table::bad_table(table) {
-        return refusals::BAD_TABLE;
+        return Err(Refusal::BadTable);
     }
     if versions::bad_record(versions) {
-        return refusals::BAD_RECORD;
+        return Err(Refusal::BadRecord);
     }
     if versions.active {
-        return refusals::RUN_ACTIVE;
+        return Err(Refusal::RunActive);
     }
-    0
+    Ok(())
 }
 
-// Those that the lists of save block and load block begin with, 0 for none.
-fn block_refusal(table: &[i64], versions: VersionRecord, number: usize) -> u32
-    ensures { result ≡ first (block_tests table.now versions number) }
+// Those that the lists of save block and load block begin with: 1, 2, 7, 5.
+fn test_block(table: &[i64], versions: VersionRecord, number: usize) -> Result<(), Refusal>
+    ensures { result ≡ unless (first (block_tests table.now versions number)) tt }
 {
-    let refusal = idle_refusal(table, versions);
-    if refusal != 0 {
-        return refusal;
-    }
+    test_idle(table, versions)?;
     if blocks_saves::no_such_block(table, number) {
-        return refusals::NO_SUCH_PLACE;
+        return Err(Refusal::NoSuchPlace);
     }
-    0
+    Ok(())
 }
 
 // Save header: 1, 2, 7.
-pub fn save_header(table: &[i64], versions: VersionRecord) -> Saved
+pub fn save_header(
+    table: &[i64],
+    versions: VersionRecord,
+) -> Result<[u8; BLOCK_BYTES], Refusal>
     ensures { SaveHeaderContract table.now versions result }
 {
-    let refusal = idle_refusal(table, versions);
-    if refusal != 0 {
-        return blocks_saves::refused(refusal);
-    }
+    test_idle(table, versions)?;
     let count = table::slots_of(table);
     let current = versions.current;
     let oldest = versions.oldest;
-    let block = blocks_headers::header_block(count as u32, current as u32, oldest as u32);
-    Saved {
-        refusal: 0,
-        block: block,
-    }
+    Ok(blocks_headers::header_block(count as u32, current as u32, oldest as u32))
 }
 
 // Save block: 1, 2, 7, 5, 6 (its slots).
-pub fn save_block(table: &[i64], versions: VersionRecord, number: usize) -> Saved
+pub fn save_block(
+    table: &[i64],
+    versions: VersionRecord,
+    number: usize,
+) -> Result<[u8; BLOCK_BYTES], Refusal>
     ensures { SaveBlockContract table.now versions number result }
 {
-    let refusal = block_refusal(table, versions, number);
-    if refusal != 0 {
-        return blocks_saves::refused(refusal);
-    }
+    test_block(table, versions, number)?;
     blocks_saves::save_slots(table, versions, number)
 }
 
 // Load header: 14, 15, 16. It answers slots, current and the oldest open version.
-pub fn load_header(block: &[u8]) -> Header
+pub fn load_header(block: &[u8]) -> Result<Header, Refusal>
     ensures { LoadHeaderContract block.now result }
 {
     if block.len() != BLOCK_BYTES {
-        return Header::Refused(refusals::NOT_BLOCK);
+        return Err(Refusal::NotBlock);
     }
     if blocks_words::check_wrong(block) {
-        return Header::Refused(refusals::WRONG_CHECK);
+        return Err(Refusal::WrongCheck);
     }
     if blocks_headers::header_wrong(block) {
-        return Header::Refused(refusals::BAD_FIELD);
+        return Err(Refusal::BadField);
     }
     let slots = blocks_words::word_at(block, blocks_headers::SLOTS_PLACE);
     let current = blocks_words::word_at(block, blocks_headers::CURRENT_PLACE);
     let oldest = blocks_words::word_at(block, blocks_headers::OLDEST_PLACE);
-    Header::Holds {
+    Ok(Header {
         slots: slots,
         current: current as i64,
         oldest: blocks_headers::oldest_of(current, oldest),
-    }
+    })
 }
 
 // Load block: 1, 2, 7, 5, 14, 15, 16. It writes its slots only, and nothing where it is refused.
-pub fn load_block(table: &mut [i64], versions: VersionRecord, number: usize, block: &[u8]) -> Loaded
+pub fn load_block(
+    table: &mut [i64],
+    versions: VersionRecord,
+    number: usize,
+    block: &[u8],
+) -> Result<(), Refusal>
     ensures { LoadBlockContract table.old versions number block.now result table.new }
 {
-    let refusal = block_refusal(table, versions, number);
-    if refusal != 0 {
-        return Loaded::Refused(refusal);
-    }
+    test_block(table, versions, number)?;
     if block.len() != BLOCK_BYTES {
-        return Loaded::Refused(refusals::NOT_BLOCK);
+        return Err(Refusal::NotBlock);
     }
     if blocks_words::check_wrong(block) {
-        return Loaded::Refused(refusals::WRONG_CHECK);
+        return Err(Refusal::WrongCheck);
     }
     if blocks_loads::slot_block_wrong(table, versions, number, block) {
-        return Loaded::Refused(refusals::BAD_FIELD);
+        return Err(Refusal::BadField);
     }
     blocks_loads::load_slots(table, number, block);
-    Loaded::Done
+    Ok(())
 }

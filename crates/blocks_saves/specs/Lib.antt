@@ -1,5 +1,3 @@
 pub mod SlotBlocks
-pub mod HandedOut
 pub mod SlotBlockLaws
-pub mod HandedOutLaws
 pub mod SlotsBack

@@ -1,7 +1,8 @@
 -- Block k from 1: which blocks a table has, the words of a saved one, and which slots it does not save. RULES.md,
 -- Blocks. Assumes nothing.
 use Rattle.std.specs.Prelude.{Bool, not, ◌&&◌, List, [], ◌∷◌, ◌++◌, ℕ, zero, suc, ◌+◌, leb, ℤ, replicate}
-use Rattle.refusals.specs.Refusals as refusal
+use Rattle.refusals.specs.declared.Refusal.{Refusal}
+use Rattle.refusals.specs.declared.Refusal.TheVariants as refusal
 use Rattle.laws.specs.Lowest.{some}
 use Rattle.versions.specs.declared.VersionRecord.{VersionRecord}
 use Rattle.table.specs.Slots.{words_of, slot_at}
@@ -27,5 +28,5 @@ unfoldable pub block_broken : List ℤ → VersionRecord → ℕ → Bool
 block_broken t v k = some (λ j. broken (slot_at t (first_slot k + j)) v) block_slots
 
 -- 6: a save of a block of slots ends with this
-abbrev pub slot_tests : List ℤ → VersionRecord → ℕ → List (Bool × ℕ)
-slot_tests t v k = (block_broken t v k, refusal.broken_slot) ∷ []
+abbrev pub slot_tests : List ℤ → VersionRecord → ℕ → List (Bool × Refusal)
+slot_tests t v k = (block_broken t v k, refusal.BrokenSlot) ∷ []

@@ -1,34 +1,18 @@
-// Block k from 1, made of a table's slots in one pass, each word stored and added to the check; which blocks a table has; and what a
-// save hands out. All here are leaves for our other crates.
+// Block k from 1, made of a table's slots in one pass, each word stored and added to the check; and which blocks a
+// table has. All here are leaves for our other crates.
 #![tactic(auto)]
 
 ghost use Rattle.std.specs.Prelude.{◌≡◌, false};
-ghost use Rattle.laws.specs.First.{first};
+ghost use Rattle.laws.specs.First.{first, unless};
+ghost use Rattle.blocks_words.specs.Words.{block_of};
 ghost use Rattle.versions.specs.Record.{bad_record};
 ghost use Rattle.blocks_loads.specs.LoadedSlots.{Within};
 ghost use Rattle.blocks_saves.specs.SlotBlocks.{no_such_block, slot_block_words, slot_tests};
-ghost use Rattle.blocks_saves.specs.HandedOut.{Hands, HandsZeros};
 
 use blocks_words::longs;
 use blocks_words::longs::BLOCK_SLOTS;
+use refusals::Refusal;
 use versions::VersionRecord;
-
-// What a save hands out: 0 or the refusal's number, and the block beside it, zeros where it is refused.
-#[derive(Drop)]
-pub struct Saved {
-    pub refusal: u32,
-    pub block: [u8; 512],
-}
-
-// A refused save.
-pub fn refused(number: u32) -> Saved
-    ensures { HandsZeros result number }
-{
-    Saved {
-        refusal: number,
-        block: [0u8; 512],
-    }
-}
 
 // Refusal 5: block number not in 1 to slots / 7 rounded up.
 pub fn no_such_block(table: &[i64], number: usize) -> bool
@@ -39,10 +23,10 @@ pub fn no_such_block(table: &[i64], number: usize) -> bool
 }
 
 // A block of slots, each read, tested (refusal 6) and written in turn.
-pub fn save_slots(table: &[i64], versions: VersionRecord, number: usize) -> Saved
+pub fn save_slots(table: &[i64], versions: VersionRecord, number: usize) -> Result<[u8; 512], Refusal>
     requires within { Within table.now number }
     requires lawful_record { bad_record versions ≡ false }
-    ensures { Hands result (first (slot_tests table.now versions number)) (slot_block_words table.now number) }
+    ensures { result ≡ unless (first (slot_tests table.now versions number)) (block_of (slot_block_words table.now number)) }
 {
     let from = BLOCK_SLOTS * (number - 1);
     let mut block = [0u8; 512];
@@ -57,14 +41,11 @@ pub fn save_slots(table: &[i64], versions: VersionRecord, number: usize) -> Save
         let x = table::slot_at(table, from + j);
         let broken = table_forms::is_broken(x, versions);
         if broken {
-            return refused(refusals::BROKEN_SLOT);
+            return Err(Refusal::BrokenSlot);
         }
         check = longs::write_slot(&mut block, j, x, check);
         j += 1;
     }
     blocks_words::put_word(&mut block, blocks_words::CHECK_PLACE, check);
-    Saved {
-        refusal: 0,
-        block: block,
-    }
+    Ok(block)
 }

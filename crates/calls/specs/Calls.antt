@@ -1,11 +1,9 @@
 -- Every call of the library as a value, and its answer as a value. Assumes nothing.
-use Rattle.std.specs.Prelude.{List, ℕ, ℤ}
-use Rattle.versions_runs.specs.declared.Numbered.{Numbered}
-use Rattle.reads.specs.declared.Seen.{Seen}
-use Rattle.reads_roll_up.specs.declared.Rolled.{Rolled}
-use Rattle.changes_rows.specs.declared.Placed.{Placed}
+use Rattle.std.specs.Prelude.{List, ℕ, ℤ, Option, Result}
+use Rattle.refusals.specs.declared.Refusal.{Refusal}
+use Rattle.reads.specs.declared.Row.{Row}
+use Rattle.reads_roll_up.specs.declared.Sums.{Sums}
 use Rattle.blocks.specs.declared.Header.{Header}
-use Rattle.blocks.specs.declared.Loaded.{Loaded}
 
 pub data Call : Type 0 where
   open_session : Call
@@ -30,12 +28,16 @@ pub data Call : Type 0 where
   -- block number, the lent bytes
   load_block : ℕ → List ℕ → Call
 
+-- each is what the call answers where nothing refuses it, or its refusal
 pub data Answer : Type 0 where
-  numbered : Numbered → Answer
-  seen : Seen → Answer
-  rolled : Rolled → Answer
-  placed : Placed → Answer
-  -- 0 or the refusal; the block is in the state
-  saved : ℕ → Answer
-  header : Header → Answer
-  loaded : Loaded → Answer
+  -- the number of a version
+  numbered : Result ℤ Refusal → Answer
+  -- a row, or none
+  seen : Result (Option Row) Refusal → Answer
+  rolled : Result Sums Refusal → Answer
+  -- the number of the slot
+  placed : Result ℕ Refusal → Answer
+  -- the block is in the state
+  saved : Result Unit Refusal → Answer
+  header : Result Header Refusal → Answer
+  loaded : Result Unit Refusal → Answer

@@ -1,8 +1,5 @@
 pub mod Refusals
-pub mod Numbered
-pub mod Seen
-pub mod Rolled
-pub mod Placed
+pub mod Rows
 pub mod Terms
 pub mod Calls
 pub mod Numbers

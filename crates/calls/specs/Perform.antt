@@ -1,5 +1,6 @@
 -- What a call does to the lent things: it hands on to the definition of the call, and does nothing itself. Assumes nothing.
 use Rattle.std.specs.Prelude.{List, ℕ, ℤ}
+use Rattle.laws.specs.First.{unless}
 use Rattle.versions.specs.declared.VersionRecord.{VersionRecord}
 use Rattle.versions_runs.specs.Runs.{open_answer, begin_answer, begin_record, commit_answer, commit_record}
 use Rattle.reads.specs.ReadSlot.{read_slot_answer}
@@ -51,9 +52,9 @@ perform (delete key1 key2) st =
 perform roll_back st =
     done (numbered (roll_back_answer st.words st.versions)) (with_version (with_words st (roll_back_words st.words st.versions)) (roll_back_record st.words st.versions))
 perform save_header st =
-    done (saved (save_header_refusal st.words st.versions)) (with_block st (save_header_block st.words st.versions))
+    done (saved (unless (save_header_refusal st.words st.versions) tt)) (with_block st (save_header_block st.words st.versions))
 perform (save_block k) st =
-    done (saved (save_block_refusal st.words st.versions k)) (with_block st (save_block_block st.words st.versions k))
+    done (saved (unless (save_block_refusal st.words st.versions k) tt)) (with_block st (save_block_block st.words st.versions k))
 perform (load_header given) st = done (header (load_header_answer given)) (with_block st given)
 perform (load_block k given) st =
     done (loaded (load_block_answer st.words st.versions k given))

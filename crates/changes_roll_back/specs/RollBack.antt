@@ -1,14 +1,12 @@
 -- Roll back: what it leaves of a slot, of the table and of the record, its refusals in the order of RULES.md (The order of tests),
 -- its answer, and the contract that says so. Assumes nothing.
-use Rattle.std.specs.Prelude.{◌≡◌, Bool, false, cond, List, [], ◌∷◌, ◌++◌, ℕ, zero, suc, ℤ, pos}
-use Rattle.refusals.specs.Refusals as refusal
-use Rattle.laws.specs.First.{first, unless}
+use Rattle.std.specs.Prelude.{◌≡◌, Bool, false, cond, List, [], ◌∷◌, ◌++◌, ℕ, zero, suc, ℤ, pos, Option, Result}
+use Rattle.refusals.specs.declared.Refusal.{Refusal}
+use Rattle.refusals.specs.declared.Refusal.TheVariants as refusal
+use Rattle.laws.specs.First.{first, unless, kept_or}
 use Rattle.laws.specs.Order.{eq_z}
 use Rattle.versions.specs.declared.VersionRecord.{VersionRecord}
 use Rattle.versions.specs.Record.{run_number}
-use Rattle.versions_runs.specs.declared.Numbered.{Numbered}
-use Rattle.versions_runs.specs.declared.Numbered.TheVariants.{Version, Refused}
-use Rattle.versions_runs.specs.declared.Turned.{Turned}
 use Rattle.table.specs.declared.Slot.{Slot}
 use Rattle.table.specs.Slots.{empty, slots, slot_at, put_slot}
 use Rattle.table_forms.specs.Operations.{insert_operation}
@@ -43,24 +41,24 @@ abbrev pub rolled_back_from : VersionRecord → VersionRecord
 rolled_back_from v = record { current = v.current; active = false; oldest = v.oldest }
 
 -- Roll back: 1, 2, 8, 6 (any slot)
-abbrev pub roll_back_tests : List ℤ → VersionRecord → List (Bool × ℕ)
-roll_back_tests t v = running_tests t v ++ (any_broken t v, refusal.broken_slot) ∷ []
+abbrev pub roll_back_tests : List ℤ → VersionRecord → List (Bool × Refusal)
+roll_back_tests t v = running_tests t v ++ (any_broken t v, refusal.BrokenSlot) ∷ []
 
-unfoldable pub roll_back_refusal : List ℤ → VersionRecord → ℕ
+unfoldable pub roll_back_refusal : List ℤ → VersionRecord → Option Refusal
 roll_back_refusal t v = first (roll_back_tests t v)
 
 -- the answer is current
-unfoldable pub roll_back_answer : List ℤ → VersionRecord → Numbered
-roll_back_answer t v = unless (roll_back_refusal t v) Refused (Version v.current)
+unfoldable pub roll_back_answer : List ℤ → VersionRecord → Result ℤ Refusal
+roll_back_answer t v = unless (roll_back_refusal t v) v.current
 
 unfoldable pub roll_back_words : List ℤ → VersionRecord → List ℤ
-roll_back_words t v = unless (roll_back_refusal t v) (λ n. t) (slots_back t v (slots t))
+roll_back_words t v = kept_or (roll_back_refusal t v) t (slots_back t v (slots t))
 
 unfoldable pub roll_back_record : List ℤ → VersionRecord → VersionRecord
-roll_back_record t v = unless (roll_back_refusal t v) (λ n. v) (rolled_back_from v)
+roll_back_record t v = kept_or (roll_back_refusal t v) v (rolled_back_from v)
 
 -- the contract
-pub record RollBackContract (t : List ℤ) (v : VersionRecord) (r : Turned) (t' : List ℤ) : Type 0 where
-  pub answer : r.answer ≡ roll_back_answer t v
-  pub versions : r.versions ≡ roll_back_record t v
+pub record RollBackContract (t : List ℤ) (v : VersionRecord) (r : Result ℤ Refusal) (t' : List ℤ) (v' : VersionRecord) : Type 0 where
+  pub answer : r ≡ roll_back_answer t v
+  pub versions : v' ≡ roll_back_record t v
   pub words : t' ≡ roll_back_words t v

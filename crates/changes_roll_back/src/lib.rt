@@ -3,15 +3,14 @@
 #![tactic(auto)]
 
 ghost use Rattle.std.specs.Prelude.{◌≡◌, false, ◌<◌};
+ghost use Rattle.laws.specs.First.{unless};
 ghost use Rattle.versions.specs.Record.{bad_record};
 ghost use Rattle.table.specs.Slots.{bad_table, slots, slot_at, put_slot};
-ghost use Rattle.versions_runs.specs.declared.Numbered.TheVariants.{Version};
-ghost use Rattle.versions_runs.specs.Runs.{leaving};
-ghost use Rattle.changes_roll_back.specs.RollBack.{as_before, rolled_back, slots_back, rolled_back_from, roll_back_refusal, RollBackContract};
+ghost use Rattle.changes_roll_back.specs.RollBack.{as_before, rolled_back, slots_back, roll_back_refusal, RollBackContract};
 
+use refusals::Refusal;
 use table::{RUN, SLOT_WORDS, Slot};
 use versions::VersionRecord;
-use versions_runs::{Numbered, Turned};
 
 // A row that the run updated or deleted, as it was before it.
 fn as_before(x: Slot, versions: VersionRecord) -> Slot
@@ -65,67 +64,29 @@ fn put_back(table: &mut [i64], versions: VersionRecord)
     requires lawful_record { bad_record versions ≡ false }
     ensures { table.new ≡ slots_back table.old versions (slots table.old) }
 {
-    let slots = table::slots_of(table);
-    let mut k: usize = 0;
-    while k < slots {
+    for k in 0..table::slots_of(table) {
         put_slot_back(table, k, versions);
-        k += 1;
     }
 }
 
-// The refusals: 1, 2, 8, and 6 of any slot; 0 for none.
-fn roll_back_refusal(table: &[i64], versions: VersionRecord) -> u32
-    ensures { result ≡ roll_back_refusal table.now versions }
+// The tests: 1, 2, 8, and 6 of any slot.
+fn test_all(table: &[i64], versions: VersionRecord) -> Result<(), Refusal>
+    ensures { result ≡ unless (roll_back_refusal table.now versions) tt }
 {
-    let refusal = changes::running_refusal(table, versions);
-    if refusal != 0 {
-        return refusal;
-    }
+    changes::test_running(table, versions)?;
     if table_walks::any_broken(table, versions) {
-        return refusals::BROKEN_SLOT;
+        return Err(Refusal::BrokenSlot);
     }
-    0
+    Ok(())
 }
 
-// The run ends and current stays, which is the answer.
-fn ended(versions: VersionRecord) -> Turned
-    ensures { result ≡ leaving (Version versions.current) (rolled_back_from versions) }
+// Roll back: the rows of this run are put back, the run ends, and current stays, which is the answer. The record is altered where it
+// stands.
+pub fn roll_back(table: &mut [i64], versions: &mut VersionRecord) -> Result<i64, Refusal>
+    ensures { RollBackContract table.old versions.old result table.new versions.new }
 {
-    let current = versions.current;
-    let oldest = versions.oldest;
-    Turned {
-        answer: Numbered::Version(current),
-        versions: VersionRecord {
-            current: current,
-            active: false,
-            oldest: oldest,
-        },
-    }
-}
-
-// Roll back, with the record by value.
-pub fn roll_back_by_value(table: &mut [i64], versions: VersionRecord) -> Turned
-    ensures { RollBackContract table.old versions result table.new }
-{
-    let refusal = roll_back_refusal(table, versions);
-    if refusal != 0 {
-        return Turned {
-            answer: Numbered::Refused(refusal),
-            versions: versions,
-        };
-    }
-    put_back(table, versions);
-    ended(versions)
-}
-
-// Roll back, with the record lent and altered where it stands: the answer, the table and the record at exit are those of
-// `roll_back_by_value`.
-pub fn roll_back(table: &mut [i64], versions: &mut VersionRecord) -> Numbered
-    ensures { RollBackContract table.old versions.old (leaving result versions.new) table.new }
-{
-    let was = *versions;
-    let turned = roll_back_by_value(table, was);
-    let left = turned.versions;
-    *versions = left;
-    turned.answer
+    test_all(table, *versions)?;
+    put_back(table, *versions);
+    versions.active = false;
+    Ok(versions.current)
 }

@@ -1,6 +1,7 @@
 -- A put in the two parts that the code has: of a key that has a slot, and of one that has none. Assumes nothing.
-use Rattle.std.specs.Prelude.{Bool, not, List, [], ◌∷◌, ℕ, ℤ, ltb}
-use Rattle.refusals.specs.Refusals as refusal
+use Rattle.std.specs.Prelude.{Bool, not, List, [], ◌∷◌, ℕ, ℤ, ltb, Result}
+use Rattle.refusals.specs.declared.Refusal.{Refusal}
+use Rattle.refusals.specs.declared.Refusal.TheVariants as refusal
 use Rattle.laws.specs.First.{first}
 use Rattle.versions.specs.declared.VersionRecord.{VersionRecord}
 use Rattle.versions.specs.Record.{run_number}
@@ -9,17 +10,16 @@ use Rattle.table.specs.Slots.{slots, slot_at}
 use Rattle.table_free.specs.Free.{free_slot}
 use Rattle.table_forms.specs.Formed.{broken}
 use Rattle.changes_cells.specs.Tables.{put_over}
-use Rattle.changes_rows.specs.declared.Placed.{Placed}
 use Rattle.changes_rows.specs.ChangeLeaves.{Leaves}
 
 -- 6, of the slot that the key has
-abbrev pub found_tests : List ℤ → VersionRecord → ℕ → List (Bool × ℕ)
-found_tests t v k = (broken (slot_at t k) v, refusal.broken_slot) ∷ []
+abbrev pub found_tests : List ℤ → VersionRecord → ℕ → List (Bool × Refusal)
+found_tests t v k = (broken (slot_at t k) v, refusal.BrokenSlot) ∷ []
 
 -- 12, where it has none
-abbrev pub new_tests : List ℤ → VersionRecord → List (Bool × ℕ)
-new_tests t v = (not (ltb (free_slot t v) (slots t)), refusal.table_full) ∷ []
+abbrev pub new_tests : List ℤ → VersionRecord → List (Bool × Refusal)
+new_tests t v = (not (ltb (free_slot t v) (slots t)), refusal.TableFull) ∷ []
 
 -- what is left past those tests: the place k is written with what a put leaves of the slot x
-pub record PutAt (t : List ℤ) (v : VersionRecord) (tests : List (Bool × ℕ)) (k : ℕ) (x : Slot) (key1 key2 total1 total2 : ℤ) (r : Placed) (t' : List ℤ) : Type 0 where
+pub record PutAt (t : List ℤ) (v : VersionRecord) (tests : List (Bool × Refusal)) (k : ℕ) (x : Slot) (key1 key2 total1 total2 : ℤ) (r : Result ℕ Refusal) (t' : List ℤ) : Type 0 where
   pub leaves : Leaves (first tests) t k (put_over (run_number v) x key1 key2 total1 total2) r t'

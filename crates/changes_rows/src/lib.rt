@@ -2,7 +2,7 @@
 // for a free slot) and one write of one slot, which goes by the cell of that slot in a decision table and by nothing else.
 #![tactic(auto)]
 
-ghost use Rattle.std.specs.Prelude.{◌≡◌, false, ◌<◌};
+ghost use Rattle.std.specs.Prelude.{◌≡◌, false, ◌<◌, None};
 ghost use Rattle.versions.specs.Record.{bad_record, run_number};
 ghost use Rattle.table.specs.Slots.{bad_table, slots, slot_at, empty};
 ghost use Rattle.table_free.specs.Free.{free_slot};
@@ -13,15 +13,9 @@ ghost use Rattle.changes_rows.specs.PutParts.{found_tests, new_tests, PutAt};
 ghost use Rattle.changes_rows.specs.DeleteRow.{RowDeleted};
 
 use changes_cells::{CORRECT, ERASE, MARK, NEVER, NEW, REMOVE, RESTORE, SAVE};
+use refusals::Refusal;
 use table::Slot;
 use versions::VersionRecord;
-
-// What a change answers: the slot that it wrote, or a refusal.
-#[derive(Clone, Copy)]
-pub enum Placed {
-    InSlot(usize),
-    Refused(u32),
-}
 
 // Tables 2 to 4: a row for an older run, then a row for this run; to a row the columns empty, insert, update, delete.
 const TABLE_2: [u8; 8] = [NEW, NEVER, NEVER, NEW, NEVER, NEVER, NEVER, RESTORE];
@@ -31,13 +25,13 @@ const TABLE_3: [u8; 8] = [NEVER, SAVE, SAVE, NEVER, NEVER, CORRECT, CORRECT, NEV
 const TABLE_4: [u8; 8] = [NEVER, REMOVE, REMOVE, NEVER, NEVER, ERASE, MARK, NEVER];
 
 // A slot is written at a place, which is the answer.
-fn place(table: &mut [i64], k: usize, x: Slot) -> Placed
+fn place(table: &mut [i64], k: usize, x: Slot) -> Result<usize, Refusal>
     requires lawful_table { bad_table table.old ≡ false }
     requires in_table { k < slots table.old }
-    ensures { Leaves 0 table.old k x result table.new }
+    ensures { Leaves None table.old k x result table.new }
 {
     table::put_slot(table, k, x);
-    Placed::InSlot(k)
+    Ok(k)
 }
 
 // What a put leaves of a slot: by Table 3 where it is live, and by Table 2 where it is not.
@@ -67,7 +61,7 @@ fn put_found(
     key2: i64,
     total1: i64,
     total2: i64,
-) -> Placed
+) -> Result<usize, Refusal>
     requires lawful_table { bad_table table.old ≡ false }
     requires lawful_record { bad_record versions ≡ false }
     requires in_table { k < slots table.old }
@@ -75,7 +69,7 @@ fn put_found(
 {
     let x = table::slot_at(table, k);
     if table_forms::is_broken(x, versions) {
-        return Placed::Refused(refusals::BROKEN_SLOT);
+        return Err(Refusal::BrokenSlot);
     }
     place(table, k, put_over(versions, x, key1, key2, total1, total2))
 }
@@ -88,15 +82,12 @@ fn put_new(
     key2: i64,
     total1: i64,
     total2: i64,
-) -> Placed
+) -> Result<usize, Refusal>
     requires lawful_table { bad_table table.old ≡ false }
     requires lawful_record { bad_record versions ≡ false }
     ensures { PutAt table.old versions (new_tests table.old versions) (free_slot table.old versions) empty key1 key2 total1 total2 result table.new }
 {
-    let k = table_free::free_slot(table, versions);
-    if k >= table::slots_of(table) {
-        return Placed::Refused(refusals::TABLE_FULL);
-    }
+    let k = table_free::free_slot(table, versions).ok_or(Refusal::TableFull)?;
     place(
         table,
         k,
@@ -112,31 +103,30 @@ pub fn put_row(
     key2: i64,
     total1: i64,
     total2: i64,
-) -> Placed
+) -> Result<usize, Refusal>
     requires lawful_table { bad_table table.old ≡ false }
     requires lawful_record { bad_record versions ≡ false }
     ensures { RowPut table.old versions key1 key2 total1 total2 result table.new }
 {
-    let k = table_keys::key_slot(table, key1, key2);
-    if k < table::slots_of(table) {
-        return put_found(table, versions, k, key1, key2, total1, total2);
+    match table_keys::key_slot(table, key1, key2) {
+        Some(k) => put_found(table, versions, k, key1, key2, total1, total2),
+        None => put_new(table, versions, key1, key2, total1, total2),
     }
-    put_new(table, versions, key1, key2, total1, total2)
 }
 
 // A delete past 8: 6, 11, and the write by Table 4. It gives no totals.
-pub fn delete_row(table: &mut [i64], versions: VersionRecord, key1: i64, key2: i64) -> Placed
+pub fn delete_row(table: &mut [i64], versions: VersionRecord, key1: i64, key2: i64) -> Result<usize, Refusal>
     requires lawful_table { bad_table table.old ≡ false }
     requires lawful_record { bad_record versions ≡ false }
     ensures { RowDeleted table.old versions key1 key2 result table.new }
 {
-    let k = table_keys::key_slot(table, key1, key2);
+    let k = table_keys::key_slot(table, key1, key2).ok_or(Refusal::KeyNotLive)?;
     let x = table::slot_at(table, k);
     if table_forms::is_broken(x, versions) {
-        return Placed::Refused(refusals::BROKEN_SLOT);
+        return Err(Refusal::BrokenSlot);
     }
     if !table_forms::is_live(x) {
-        return Placed::Refused(refusals::KEY_NOT_LIVE);
+        return Err(Refusal::KeyNotLive);
     }
     place(
         table,

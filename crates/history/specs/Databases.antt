@@ -1,19 +1,11 @@
 -- A database: keys with totals, no key twice. What a change makes of one, what a read of one answers, and the keys that several
 -- hold together. No table word is read here. Assumes nothing.
-use Rattle.std.specs.Prelude.{◌≡◌, Bool, false, cond, not, ◌&&◌, ◌||◌, List, [], ◌∷◌, ◌++◌, ℕ, zero, suc, ℤ, pos, ◌+ℤ◌, length}
-use Rattle.calls.specs.Seen.{Seen}
-use Rattle.calls.specs.Seen as seen
-use Rattle.calls.specs.Rolled.{Rolled}
-use Rattle.calls.specs.Rolled as rolled
+use Rattle.std.specs.Prelude.{◌≡◌, Bool, false, cond, not, ◌&&◌, ◌||◌, List, [], ◌∷◌, ◌++◌, ℕ, zero, suc, ℤ, pos, ◌+ℤ◌, length, Option, Some, None, Result, Ok, Err}
+use Rattle.calls.specs.Rows.{Row, Sums}
+use Rattle.calls.specs.Refusals.{Refusal}
 use Rattle.calls.specs.Terms.{eq_z, not_reported}
 
--- a row: a key of two words, and two totals
-pub record Row : Type 0 where
-  pub key1 : ℤ
-  pub key2 : ℤ
-  pub total1 : ℤ
-  pub total2 : ℤ
-
+-- rows, each a key of two words and two totals
 abbrev pub Database : Type 0
 Database = List Row
 
@@ -60,19 +52,15 @@ made_by [] d = d
 made_by (c ∷ changes) d = made_by changes (changed c d)
 
 -- ---- what a read answers
-abbrev pub as_seen : Row → Seen
-as_seen r = seen.Row r.key1 r.key2 r.total1 r.total2
-
 -- the row of a key, or no row
-abbrev pub found : ℤ → ℤ → Database → Seen
-found key1 key2 [] = seen.NoRow
-found key1 key2 (r ∷ d) = cond (is_key key1 key2 r) (as_seen r) (found key1 key2 d)
+abbrev pub found : ℤ → ℤ → Database → Option Row
+found key1 key2 [] = None
+found key1 key2 (r ∷ d) = cond (is_key key1 key2 r) (Some r) (found key1 key2 d)
 
 -- no row, or the row that the database has of its key
-abbrev pub IsOf : Database → Seen → Type 0
-IsOf d (seen.Row key1 key2 total1 total2) = found key1 key2 d ≡ seen.Row key1 key2 total1 total2
-IsOf d seen.NoRow = Unit {0}
-IsOf d (seen.Refused n) = ⊥
+abbrev pub IsOf : Database → Option Row → Type 0
+IsOf d (Some r) = found r.key1 r.key2 d ≡ Some r
+IsOf d None = Unit {0}
 
 -- ---- the roll-up of a region
 -- a region: the rows with a first key word
@@ -89,19 +77,21 @@ sum_of total [] = pos 0
 sum_of total (r ∷ d) = total r +ℤ sum_of total d
 
 -- how many rows the region has, how many of them report each total, and the sum of each total over those that report it
-abbrev pub rolled_up : ℤ → Database → Rolled
+abbrev pub rolled_up : ℤ → Database → Sums
 rolled_up key1 d =
-    rolled.Sums (length (region key1 d))
-    (length (reporting (λ r. r.total1) (region key1 d)))
-    (length (reporting (λ r. r.total2) (region key1 d)))
-    (sum_of (λ r. r.total1) (reporting (λ r. r.total1) (region key1 d)))
-    (sum_of (λ r. r.total2) (reporting (λ r. r.total2) (region key1 d)))
+    record {
+      rows = length (region key1 d);
+      reported1 = length (reporting (λ r. r.total1) (region key1 d));
+      reported2 = length (reporting (λ r. r.total2) (region key1 d));
+      sum1 = sum_of (λ r. r.total1) (reporting (λ r. r.total1) (region key1 d));
+      sum2 = sum_of (λ r. r.total2) (reporting (λ r. r.total2) (region key1 d));
+    }
 
 -- ---- the rows of what a read answers, and the numbers of slots
-abbrev pub rows_of : Seen → Database
-rows_of (seen.Row key1 key2 total1 total2) = row key1 key2 total1 total2 ∷ []
-rows_of seen.NoRow = []
-rows_of (seen.Refused n) = []
+abbrev pub rows_of : Result (Option Row) Refusal → Database
+rows_of (Ok (Some r)) = r ∷ []
+rows_of (Ok None) = []
+rows_of (Err e) = []
 
 abbrev pub up_to : ℕ → List ℕ
 up_to zero = []

@@ -1,15 +1,11 @@
 -- Demand 3, said of a world of a kind of table: what is lent, with what was followed of its history. What each statement promises
 -- holds after every history, `Kept` below. 'Committed', 'current', 'running' and 'gone' are by what was followed alone: a version
 -- is gone once the run that many above it has begun, as many as the kind keeps. Assumes nothing.
-use Rattle.std.specs.Prelude.{◌≡◌, true, false, ℕ, suc, ◌≤◌, ◌<◌, ℤ, pos, nat_abs, length}
+use Rattle.std.specs.Prelude.{◌≡◌, true, false, ℕ, suc, ◌≤◌, ◌<◌, ℤ, pos, nat_abs, length, Option, Ok, Err}
 use mathlib.Core.List.{List, [], map, Perm}
 use Rattle.calls.specs.Terms.{largest_version, unlawful}
 use Rattle.calls.specs.Refusals as refusal
-use Rattle.calls.specs.Numbered as numbered
-use Rattle.calls.specs.Seen.{Seen}
-use Rattle.calls.specs.Seen as seen
-use Rattle.calls.specs.Rolled as rolled
-use Rattle.calls.specs.Placed as placed
+use Rattle.calls.specs.Rows.{Row}
 use Rattle.calls.specs.Calls.{Answer}
 use Rattle.calls.specs.Calls as answer
 use Rattle.history.specs.Databases.{Database, holds, NoRepeat, Change, made_by, found, IsOf, rolled_up, up_to, all_together}
@@ -28,31 +24,31 @@ pub record Until {K : Kind} (w : World K) (s : ℕ) (got expired shown : Answer)
 
 -- an answer to a read that shows no row, or a row of the database
 pub data Shows (d : Database) : Answer → Type 0 where
-  answered : (r : Seen) → IsOf d r → Shows d (answer.seen r)
+  answered : (r : Option Row) → IsOf d r → Shows d (answer.seen (Ok r))
 
 module _ {K : Kind} where
   -- ---- runs: open answers the current version; begin is accepted exactly with no run active and a version left, commit exactly
   -- in a run, and both answer the next version; roll back is accepted exactly in a run, and answers the current version
   pub record Runs (w : World K) : Type 0 where
-    pub opened : answer_of K.open_session w ≡ answer.numbered (numbered.Version (pos (current w.told)))
-    pub begun : w.told.active ≡ false → current w.told < nat_abs largest_version → answer_of K.begin w ≡ answer.numbered (numbered.Version (pos (suc (current w.told))))
-    pub begun_already : w.told.active ≡ true → answer_of K.begin w ≡ answer.numbered (numbered.Refused refusal.run_active)
-    pub no_version_left : w.told.active ≡ false → nat_abs largest_version ≤ current w.told → answer_of K.begin w ≡ answer.numbered (numbered.Refused refusal.no_version_left)
-    pub committed : w.told.active ≡ true → answer_of K.commit w ≡ answer.numbered (numbered.Version (pos (suc (current w.told))))
-    pub no_run : w.told.active ≡ false → answer_of K.commit w ≡ answer.numbered (numbered.Refused refusal.no_run)
-    pub rolled_back : w.told.active ≡ true → answer_of K.roll_back w ≡ answer.numbered (numbered.Version (pos (current w.told)))
-    pub nothing_to_roll_back : w.told.active ≡ false → answer_of K.roll_back w ≡ answer.numbered (numbered.Refused refusal.no_run)
+    pub opened : answer_of K.open_session w ≡ answer.numbered (Ok (pos (current w.told)))
+    pub begun : w.told.active ≡ false → current w.told < nat_abs largest_version → answer_of K.begin w ≡ answer.numbered (Ok (pos (suc (current w.told))))
+    pub begun_already : w.told.active ≡ true → answer_of K.begin w ≡ answer.numbered (Err refusal.RunActive)
+    pub no_version_left : w.told.active ≡ false → nat_abs largest_version ≤ current w.told → answer_of K.begin w ≡ answer.numbered (Err refusal.NoVersionLeft)
+    pub committed : w.told.active ≡ true → answer_of K.commit w ≡ answer.numbered (Ok (pos (suc (current w.told))))
+    pub no_run : w.told.active ≡ false → answer_of K.commit w ≡ answer.numbered (Err refusal.NoRun)
+    pub rolled_back : w.told.active ≡ true → answer_of K.roll_back w ≡ answer.numbered (Ok (pos (current w.told)))
+    pub nothing_to_roll_back : w.told.active ≡ false → answer_of K.roll_back w ≡ answer.numbered (Err refusal.NoRun)
 
   -- ---- a read of a key, and a roll-up, at a committed version s answers from database s, and is refused as expired exactly when
   -- that version is gone
   abbrev pub KeyRead : World K → ℕ → ℤ → ℤ → Type 0
-  KeyRead w s key1 key2 = Until w s (answer_of (K.read_key (pos s) key1 key2) w) (answer.seen (seen.Refused refusal.expired)) (answer.seen (found key1 key2 (database_at w.told s)))
+  KeyRead w s key1 key2 = Until w s (answer_of (K.read_key (pos s) key1 key2) w) (answer.seen (Err refusal.Expired)) (answer.seen (Ok (found key1 key2 (database_at w.told s))))
 
   abbrev pub KeyReads : World K → Type 0
   KeyReads w = (s : ℕ) → Committed w.told s → (key1 key2 : ℤ) → KeyRead w s key1 key2
 
   abbrev pub RegionRead : World K → ℕ → ℤ → Type 0
-  RegionRead w s key1 = Until w s (answer_of (K.roll_up (pos s) key1) w) (answer.rolled (rolled.Refused refusal.expired)) (answer.rolled (rolled_up key1 (database_at w.told s)))
+  RegionRead w s key1 = Until w s (answer_of (K.roll_up (pos s) key1) w) (answer.rolled (Err refusal.Expired)) (answer.rolled (Ok (rolled_up key1 (database_at w.told s))))
 
   abbrev pub RollUps : World K → Type 0
   RollUps w = (s : ℕ) → Committed w.told s → (key1 : ℤ) → RegionRead w s key1
@@ -60,8 +56,8 @@ module _ {K : Kind} where
   -- ---- a read of a slot is refused as expired exactly then, or by 5 past the last slot; else it answers no row, or a row of
   -- database s; and it answers the same as long as the version is not gone, whatever is called between
   pub record SlotRead (m : ℕ) (w : World K) (s k : ℕ) : Type 0 where
-    pub gone : IsGone w s → answer_of (K.read_slot (pos s) k) w ≡ answer.seen (seen.Refused refusal.expired)
-    pub past : (IsGone w s → ⊥) → m ≤ k → answer_of (K.read_slot (pos s) k) w ≡ answer.seen (seen.Refused refusal.no_such_place)
+    pub gone : IsGone w s → answer_of (K.read_slot (pos s) k) w ≡ answer.seen (Err refusal.Expired)
+    pub past : (IsGone w s → ⊥) → m ≤ k → answer_of (K.read_slot (pos s) k) w ≡ answer.seen (Err refusal.NoSuchPlace)
     pub kept : (IsGone w s → ⊥) → k < m → Shows (database_at w.told s) (answer_of (K.read_slot (pos s) k) w)
     pub stays : (h : List K.Call) → NoLoad h w → (IsGone (after h w) s → ⊥) → answer_of (K.read_slot (pos s) k) (after h w) ≡ answer_of (K.read_slot (pos s) k) w
 
@@ -87,7 +83,7 @@ module _ {K : Kind} where
   IsFull m w key1 key2 = (length (held_in_run w) ≡ m) × (holds key1 key2 (held_in_run w) ≡ false)
 
   pub record Full (m : ℕ) (w : World K) (key1 key2 total1 total2 : ℤ) : Type 0 where
-    pub full : IsFull m w key1 key2 → answer_of (K.put key1 key2 total1 total2) w ≡ answer.placed (placed.Refused refusal.table_full)
+    pub full : IsFull m w key1 key2 → answer_of (K.put key1 key2 total1 total2) w ≡ answer.placed (Err refusal.TableFull)
     pub room : (IsFull m w key1 key2 → ⊥) → accepted (answer_of (K.put key1 key2 total1 total2) w) ≡ true
 
   abbrev pub Fullness : ℕ → World K → Type 0
@@ -96,18 +92,18 @@ module _ {K : Kind} where
   -- ---- changes: with no run active every one is refused 8; during a run a put of totals that are not lawful is refused 13, and a
   -- delete is accepted exactly when its key is in the running database, and else refused 11
   pub record Changes (w : World K) (key1 key2 : ℤ) : Type 0 where
-    pub put_idle : w.told.active ≡ false → (total1 total2 : ℤ) → answer_of (K.put key1 key2 total1 total2) w ≡ answer.placed (placed.Refused refusal.no_run)
-    pub delete_idle : w.told.active ≡ false → answer_of (K.delete key1 key2) w ≡ answer.placed (placed.Refused refusal.no_run)
-    pub put_unlawful : w.told.active ≡ true → (total1 total2 : ℤ) → unlawful total1 total2 ≡ true → answer_of (K.put key1 key2 total1 total2) w ≡ answer.placed (placed.Refused refusal.bad_total)
+    pub put_idle : w.told.active ≡ false → (total1 total2 : ℤ) → answer_of (K.put key1 key2 total1 total2) w ≡ answer.placed (Err refusal.NoRun)
+    pub delete_idle : w.told.active ≡ false → answer_of (K.delete key1 key2) w ≡ answer.placed (Err refusal.NoRun)
+    pub put_unlawful : w.told.active ≡ true → (total1 total2 : ℤ) → unlawful total1 total2 ≡ true → answer_of (K.put key1 key2 total1 total2) w ≡ answer.placed (Err refusal.BadTotal)
     pub delete_live : w.told.active ≡ true → holds key1 key2 (running w.told) ≡ true → accepted (answer_of (K.delete key1 key2) w) ≡ true
-    pub delete_absent : w.told.active ≡ true → holds key1 key2 (running w.told) ≡ false → answer_of (K.delete key1 key2) w ≡ answer.placed (placed.Refused refusal.key_not_live)
+    pub delete_absent : w.told.active ≡ true → holds key1 key2 (running w.told) ≡ false → answer_of (K.delete key1 key2) w ≡ answer.placed (Err refusal.KeyNotLive)
 
   -- ---- the incident: a region is a first key, its stores the rows that have it. Wherever session s is not refused, the roll-up
   -- of the region has the counts and the sums of its stores as the session read them, slot by slot, at any places of the history
   abbrev pub Incident : ℕ → World K → Type 0
   Incident m w = (s : ℕ) → Committed w.told s → (turns : List (Turn K)) → ReadsEach m w s turns
       → (h : List K.Call) → NoLoad h w → (IsGone (after h w) s → ⊥)
-      → (region : ℤ) → answer_of (K.roll_up (pos s) region) (after h w) ≡ answer.rolled (rolled_up region (rows_got (answers_got s turns w)))
+      → (region : ℤ) → answer_of (K.roll_up (pos s) region) (after h w) ≡ answer.rolled (Ok (rolled_up region (rows_got (answers_got s turns w))))
 
   -- ---- the databases: database v + 1 is what the changes of run v + 1 make of database v, one by one; a committed one is never
   -- altered; between runs the running one is the current; and no key stands twice in one. Call by call: a run begins with the

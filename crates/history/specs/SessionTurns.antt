@@ -41,7 +41,7 @@ rows_in (numbered r) = []
 rows_in (seen r) = rows_of r
 rows_in (rolled r) = []
 rows_in (placed r) = []
-rows_in (saved n) = []
+rows_in (saved r) = []
 rows_in (header r) = []
 rows_in (loaded r) = []
 

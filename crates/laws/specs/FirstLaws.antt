@@ -1,81 +1,71 @@
--- How a chain of tests in the code is followed along a list of (test, number), and how a test comes back by its number.
+-- How a chain of tests in the code is followed along a list of (test, refusal), and how a test comes back by its refusal.
 -- Assumes nothing.
-use Rattle.std.specs.Prelude.{◌≡◌, refl, Bool, true, false, cond, List, [], ◌∷◌, ◌++◌, ℕ, zero, suc, T, eqb}
-use Rattle.std.proofs.Common.{sym, arith}
+use Rattle.std.specs.Prelude.{◌≡◌, refl, Bool, true, false, cond, List, [], ◌∷◌, ◌++◌, Option, Some, None, Result, Ok, Err, eqb}
+use Rattle.std.proofs.Common.{sym}
+use Rattle.std.proofs.lemmas.Option.{none-some}
+use Rattle.refusals.specs.declared.Refusal.{Refusal}
+use Rattle.refusals.specs.Refusals.{number}
 use Rattle.laws.specs.TestLaws.{by_test}
-use Rattle.laws.specs.First.{first, unless}
+use Rattle.laws.specs.First.{first, unless, kept_or}
 
--- how a contract's answer is shown: by a refusal that is given, or by what is done
-pub unless_refused : {A : Type 0} (refuse : ℕ → A) (done : A) {m n : ℕ} → m ≡ n → (n ≡ 0 → ⊥) → refuse n ≡ unless m refuse done
-unless_refused refuse done {n = zero} e z = absurd (z refl)
-unless_refused refuse done {n = suc n} e z = rw e refl
+-- how a contract's answer, and what it leaves, are shown: by a refusal that is given, or by what is done
+pub unless_refused : {A E : Type 0} {e : E} {m : Option E} (done : A) → m ≡ Some e → Err e ≡ unless m done
+unless_refused done h = rw h refl
 
-pub unless-done : {A : Type 0} (refuse : ℕ → A) {done r : A} {m : ℕ} → m ≡ 0 → r ≡ done → r ≡ unless m refuse done
-unless-done refuse e h = rw e h
+pub unless-done : {A E : Type 0} {m : Option E} {done : A} {r : Result A E} → m ≡ None → r ≡ Ok done → r ≡ unless m done
+unless-done h e = rw h e
 
--- the test of a number
-abbrev pub test_of : ℕ → List (Bool × ℕ) → Bool
-test_of n [] = false
-test_of n (t ∷ l) = cond (eqb n t.1) t.0 (test_of n l)
+pub kept_refused : {A E : Type 0} {e : E} {m : Option E} {stood left : A} (made : A) → m ≡ Some e → left ≡ stood → left ≡ kept_or m stood made
+kept_refused made h e = rw h e
 
--- the tests that stand after a number's
-abbrev pub after : ℕ → List (Bool × ℕ) → List (Bool × ℕ)
-after n [] = []
-after n (t ∷ l) = cond (eqb n t.1) l (after n l)
+pub kept-done : {A E : Type 0} {m : Option E} {made left : A} (stood : A) → m ≡ None → left ≡ made → left ≡ kept_or m stood made
+kept-done stood h e = rw h e
 
--- no number of the list is 0: computed, its proof is `tt`
-abbrev pub positive : ℕ → Bool
-positive zero = false
-positive (suc n) = true
+-- the test of a refusal
+abbrev pub test_of : Refusal → List (Bool × Refusal) → Bool
+test_of e [] = false
+test_of e (t ∷ l) = cond (eqb (number e) (number t.1)) t.0 (test_of e l)
 
-abbrev pub numbered : List (Bool × ℕ) → Bool
-numbered [] = true
-numbered (t ∷ l) = cond (positive t.1) (numbered l) false
+-- the tests that stand after a refusal's
+abbrev pub after : Refusal → List (Bool × Refusal) → List (Bool × Refusal)
+after e [] = []
+after e (t ∷ l) = cond (eqb (number e) (number t.1)) l (after e l)
 
-abbrev pub Numbered : List (Bool × ℕ) → Type 0
-Numbered l = T (numbered l)
-
--- ---- where nothing is refused the test of each number fails: `none _ tt h 13`
-pub none : (l : List (Bool × ℕ)) → Numbered l → first l ≡ 0 → (n : ℕ) → test_of n l ≡ false
+-- ---- where nothing is refused the test of each refusal fails: `none _ h BadTotal`
+pub none : (l : List (Bool × Refusal)) → first l ≡ None → (e : Refusal) → test_of e l ≡ false
 unfolding first
-none [] w h n = refl
-none (t ∷ l) w h n = go t.0 t.1 w refl h (λ w' z. none l w' z n)
-  where
-    go : (b : Bool) (m : ℕ) → T (cond (positive m) (numbered l) false) → t.0 ≡ b → cond b m (first l) ≡ 0
-        → (T (numbered l) → first l ≡ 0 → test_of n l ≡ false) → cond (eqb n t.1) t.0 (test_of n l) ≡ false
-    go b zero w e z rest = absurd w
-    go true (suc m) w e z rest = absurd (omega arith)
-    go false (suc m) w e z rest = by_test (eqb n t.1) (λ y. rw (y, e) refl) (λ y. rw y (rest w z))
+none [] h e = refl
+none ((true, c) ∷ l) h e = absurd (none-some c (sym h))
+none ((false, c) ∷ l) h e = by_test (eqb (number e) (number c)) (λ y. rw y refl) (λ y. rw y (none l h e))
 
 -- ---- a chain of tests, one at a time: past one that fails, and at one that holds
-pub skip : {t : Bool} (n : ℕ) (l : List (Bool × ℕ)) → t ≡ false → first ((t, n) ∷ l) ≡ first l
+pub skip : {E : Type 0} {t : Bool} (e : E) (l : List (Bool × E)) → t ≡ false → first ((t, e) ∷ l) ≡ first l
 unfolding first
-skip n l e = rw e refl
+skip e l h = rw h refl
 
-pub hit : {t : Bool} {n : ℕ} (l : List (Bool × ℕ)) → t ≡ true → first ((t, n) ∷ l) ≡ n
+pub hit : {E : Type 0} {t : Bool} {e : E} (l : List (Bool × E)) → t ≡ true → first ((t, e) ∷ l) ≡ Some e
 unfolding first
-hit l e = rw e refl
+hit l h = rw h refl
 
 -- and past the last
-pub done : first [] ≡ 0
+pub done : {E : Type 0} → first {E = E} [] ≡ None
 unfolding first
 done = refl
 
--- ---- a front part at once, whose number another function gave
-pub pass : (l m : List (Bool × ℕ)) → Numbered l → first l ≡ 0 → first (l ++ m) ≡ first m
+-- ---- a front part at once, whose refusal another function gave
+pub pass : {E : Type 0} (l m : List (Bool × E)) → first l ≡ None → first (l ++ m) ≡ first m
 unfolding first
-pass [] m w h = refl
-pass ((b, zero) ∷ l) m w h = absurd w
-pass ((true, suc n) ∷ l) m w h = absurd (omega arith)
-pass ((false, suc n) ∷ l) m w h = pass l m w h
+pass [] m h = refl
+pass ((true, c) ∷ l) m h = absurd (none-some c (sym h))
+pass ((false, c) ∷ l) m h = pass l m h
 
-pub stop : (l m : List (Bool × ℕ)) (n : ℕ) → first l ≡ n → (n ≡ 0 → ⊥) → first (l ++ m) ≡ n
+pub stop : {E : Type 0} (l m : List (Bool × E)) (e : E) → first l ≡ Some e → first (l ++ m) ≡ Some e
 unfolding first
-stop [] m n h z = absurd (z (sym h))
-stop ((true, k) ∷ l) m n h z = h
-stop ((false, k) ∷ l) m n h z = stop l m n h z
+stop [] m e h = absurd (none-some e h)
+stop ((true, c) ∷ l) m e h = h
+stop ((false, c) ∷ l) m e h = stop l m e h
 
 -- what follows a test may be replaced by what gives the same
-pub under : (t : Bool × ℕ) (l m : List (Bool × ℕ)) → first l ≡ first m → first (t ∷ l) ≡ first (t ∷ m)
+pub under : {E : Type 0} (t : Bool × E) (l m : List (Bool × E)) → first l ≡ first m → first (t ∷ l) ≡ first (t ∷ m)
 unfolding first
 under t l m e = rw e refl

@@ -1,9 +1,9 @@
 // What a session reads: Table 1, and the reads of a slot and of a key. Each read begins with the tests of its session, and walks
-// the table at most once. `session_refusal` is a leaf for our other crates.
+// the table at most once. `test_session` is a leaf for our other crates.
 #![tactic(auto)]
 
 ghost use Rattle.std.specs.Prelude.{◌≡◌, false, [], ◌∷◌};
-ghost use Rattle.refusals.specs.Refusals.{broken_slot};
+ghost use Rattle.refusals.specs.declared.Refusal.TheVariants.{BrokenSlot};
 ghost use Rattle.laws.specs.First.{first, unless};
 ghost use Rattle.versions.specs.Record.{bad_record};
 ghost use Rattle.table_forms.specs.Formed.{broken};
@@ -12,20 +12,17 @@ ghost use Rattle.reads.specs.SessionTests.{session_refusal};
 ghost use Rattle.reads.specs.ReadSlot.{ReadSlotContract};
 ghost use Rattle.reads.specs.ReadKey.{ReadKeyContract};
 
+use refusals::Refusal;
 use table::Slot;
 use versions::VersionRecord;
 
-// What a slot or a key read answers: a row, as its two key words and two totals; no row; or a refusal.
-#[derive(Clone, Copy)]
-pub enum Seen {
-    Row {
-        key1: i64,
-        key2: i64,
-        total1: i64,
-        total2: i64,
-    },
-    NoRow,
-    Refused(u32),
+// A row: its two key words and its two totals.
+#[derive(Clone, Copy, Debug, PartialEq, Eq)]
+pub struct Row {
+    pub key1: i64,
+    pub key2: i64,
+    pub total1: i64,
+    pub total2: i64,
 }
 
 // The cells of Table 1.
@@ -47,8 +44,8 @@ const TABLE_1: [u8; 8] = [
     READ_OLD, // delete, before its run
 ];
 
-// What a session sees of a slot.
-fn show(x: Slot, session: i64) -> Seen
+// What a session sees of a slot: a row, or none.
+fn show(x: Slot, session: i64) -> Option<Row>
     ensures { result ≡ shown session x }
 {
     let run = x.run;
@@ -56,97 +53,97 @@ fn show(x: Slot, session: i64) -> Seen
     let key2 = x.key2;
     let cell = table_forms::cell_of(TABLE_1, run <= session, table_forms::column_of(x));
     if cell == READ_CURRENT {
-        let total1 = x.current1;
-        let total2 = x.current2;
-        return Seen::Row {
+        return Some(Row {
             key1,
             key2,
-            total1,
-            total2,
-        };
+            total1: x.current1,
+            total2: x.current2,
+        });
     }
     if cell == READ_OLD {
-        let total1 = x.old1;
-        let total2 = x.old2;
-        return Seen::Row {
+        return Some(Row {
             key1,
             key2,
-            total1,
-            total2,
-        };
+            total1: x.old1,
+            total2: x.old2,
+        });
     }
-    Seen::NoRow
+    None
 }
 
-// The refusals that begin every read's list, asked one by one; 0 for none.
-fn tested_refusal(table: &[i64], versions: VersionRecord, session: i64) -> u32
-    ensures { result ≡ session_refusal table.now versions session }
+// The tests that begin every read's list, asked one by one.
+fn asked_one_by_one(table: &[i64], versions: VersionRecord, session: i64) -> Result<(), Refusal>
+    ensures { result ≡ unless (session_refusal table.now versions session) tt }
 {
     if table::bad_table(table) {
-        return refusals::BAD_TABLE;
+        return Err(Refusal::BadTable);
     }
     if versions::bad_record(versions) {
-        return refusals::BAD_RECORD;
+        return Err(Refusal::BadRecord);
     }
     // Both are asked before either is answered, so that their order is one place, where must-fail/refusal_4_before_3.edit changes it.
     let unborn = versions::is_unborn(versions, session);
     let expired = versions::is_expired(versions, session);
     if unborn {
-        return refusals::NO_SUCH_VERSION;
+        return Err(Refusal::NoSuchVersion);
     }
     if expired {
-        return refusals::EXPIRED;
+        return Err(Refusal::Expired);
     }
-    0
+    Ok(())
 }
 
 // The same. A session that is plainly open, of a table of a lawful shape, is let through by one expression, so that a read that
 // nothing refuses has few branches.
-pub fn session_refusal(table: &[i64], versions: VersionRecord, session: i64) -> u32
-    ensures { result ≡ session_refusal table.now versions session }
+pub fn test_session(table: &[i64], versions: VersionRecord, session: i64) -> Result<(), Refusal>
+    ensures { result ≡ unless (session_refusal table.now versions session) tt }
 {
     if !table::bad_table(table) & versions::is_plainly_open(versions, session) {
-        return 0;
+        return Ok(());
     }
-    tested_refusal(table, versions, session)
+    asked_one_by_one(table, versions, session)
 }
 
 // What a session is answered of a slot: refusal 6, or what it sees.
-fn show_formed(x: Slot, versions: VersionRecord, session: i64) -> Seen
+fn show_formed(x: Slot, versions: VersionRecord, session: i64) -> Result<Option<Row>, Refusal>
     requires { bad_record versions ≡ false }
-    ensures { result ≡ unless (first ((broken x versions, broken_slot) ∷ [])) Seen.Refused (shown session x) }
+    ensures { result ≡ unless (first ((broken x versions, BrokenSlot) ∷ [])) (shown session x) }
 {
     if table_forms::is_broken(x, versions) {
-        return Seen::Refused(refusals::BROKEN_SLOT);
+        return Err(Refusal::BrokenSlot);
     }
-    show(x, session)
+    Ok(show(x, session))
 }
 
 // Read a slot.
-pub fn read_slot(table: &[i64], versions: VersionRecord, session: i64, slot: usize) -> Seen
+pub fn read_slot(
+    table: &[i64],
+    versions: VersionRecord,
+    session: i64,
+    slot: usize,
+) -> Result<Option<Row>, Refusal>
     ensures { ReadSlotContract table.now versions session slot result }
 {
-    let refusal = session_refusal(table, versions, session);
-    if refusal != 0 {
-        return Seen::Refused(refusal);
-    }
+    test_session(table, versions, session)?;
     if slot >= table::slots_of(table) {
-        return Seen::Refused(refusals::NO_SUCH_PLACE);
+        return Err(Refusal::NoSuchPlace);
     }
     show_formed(table::slot_at(table, slot), versions, session)
 }
 
 // Read a key.
-pub fn read_key(table: &[i64], versions: VersionRecord, session: i64, key1: i64, key2: i64) -> Seen
+pub fn read_key(
+    table: &[i64],
+    versions: VersionRecord,
+    session: i64,
+    key1: i64,
+    key2: i64,
+) -> Result<Option<Row>, Refusal>
     ensures { ReadKeyContract table.now versions session key1 key2 result }
 {
-    let refusal = session_refusal(table, versions, session);
-    if refusal != 0 {
-        return Seen::Refused(refusal);
-    }
-    let k = table_keys::key_slot(table, key1, key2);
-    if k >= table::slots_of(table) {
-        return Seen::NoRow;
-    }
+    test_session(table, versions, session)?;
+    let Some(k) = table_keys::key_slot(table, key1, key2) else {
+        return Ok(None);
+    };
     show_formed(table::slot_at(table, k), versions, session)
 }

@@ -1,18 +1,17 @@
 -- Roll-up: its refusals in the order of RULES.md (The order of tests), its answer, and the contract that says so. What is counted
 -- and summed of a list of rows is `tally`, which knows no table. Assumes nothing.
-use Rattle.std.specs.Prelude.{◌≡◌, Bool, cond, List, [], ◌∷◌, ◌++◌, ℕ, zero, suc, ℤ, pos, ◌+ℤ◌}
+use Rattle.std.specs.Prelude.{◌≡◌, Bool, cond, List, [], ◌∷◌, ◌++◌, ℕ, zero, suc, ℤ, pos, ◌+ℤ◌, Option, Some, None, Result}
 use Rattle.std.proofs.Common.{sym, ◌∙◌}
-use Rattle.refusals.specs.Refusals as refusal
+use Rattle.refusals.specs.declared.Refusal.{Refusal}
+use Rattle.refusals.specs.declared.Refusal.TheVariants as refusal
 use Rattle.laws.specs.First.{first, unless}
 use Rattle.laws.specs.Order.{eq_z}
 use Rattle.versions.specs.declared.VersionRecord.{VersionRecord}
 use Rattle.table.specs.Slots.{slots, slot_at}
 use Rattle.table_forms.specs.Totals.{reported}
 use Rattle.table_forms.specs.Formed.{any_broken}
-use Rattle.reads.specs.declared.Seen.{Seen}
-use Rattle.reads.specs.declared.Seen.TheVariants.{Row, NoRow, Refused}
-use Rattle.reads_roll_up.specs.declared.Rolled.{Rolled}
-use Rattle.reads_roll_up.specs.declared.Rolled.TheVariants as rolled
+use Rattle.reads.specs.declared.Row.{Row}
+use Rattle.reads_roll_up.specs.declared.Sums.{Sums}
 use Rattle.reads_roll_up.specs.declared.Reported.{Reported}
 use Rattle.reads_roll_up.specs.declared.Tally.{Tally}
 use Rattle.reads.specs.Table1.{shown}
@@ -31,38 +30,37 @@ abbrev pub counted : ℤ → ℤ → Tally → Tally
 counted a b n = record { rows = suc n.rows; total1 = with_total a n.total1; total2 = with_total b n.total2 }
 
 -- a row with that first key word counts, and nothing else does
-abbrev pub tallied : ℤ → Seen → Tally → Tally
-tallied key1 (Row k1 k2 a b) n = cond (eq_z k1 key1) (counted a b n) n
-tallied key1 NoRow n = n
-tallied key1 (Refused m) n = n
+abbrev pub tallied : ℤ → Option Row → Tally → Tally
+tallied key1 (Some x) n = cond (eq_z x.key1 key1) (counted x.total1 x.total2 n) n
+tallied key1 None n = n
 
 -- what the rows of a list come to
-abbrev pub tally : ℤ → List Seen → Tally
+abbrev pub tally : ℤ → List (Option Row) → Tally
 tally key1 [] = nothing
 tally key1 (x ∷ l) = tallied key1 x (tally key1 l)
 
 -- what a session sees of the first n slots, the last of them first
-abbrev pub seen : List ℤ → ℤ → ℕ → List Seen
+abbrev pub seen : List ℤ → ℤ → ℕ → List (Option Row)
 seen t s zero = []
 seen t s (suc n) = shown s (slot_at t n) ∷ seen t s n
 
 -- Roll-up: 1, 2, 3, 4, 6 (any slot)
-abbrev pub roll_up_tests : List ℤ → VersionRecord → ℤ → List (Bool × ℕ)
-roll_up_tests t v s = session_tests t v s ++ (any_broken t v, refusal.broken_slot) ∷ []
+abbrev pub roll_up_tests : List ℤ → VersionRecord → ℤ → List (Bool × Refusal)
+roll_up_tests t v s = session_tests t v s ++ (any_broken t v, refusal.BrokenSlot) ∷ []
 
-unfoldable pub roll_up_refusal : List ℤ → VersionRecord → ℤ → ℕ
+unfoldable pub roll_up_refusal : List ℤ → VersionRecord → ℤ → Option Refusal
 roll_up_refusal t v s = first (roll_up_tests t v s)
 
 -- the count of visible rows with that word, how many of them reported each total, and the exact sums of what they reported
-abbrev pub sums : Tally → Rolled
-sums n = rolled.Sums n.rows n.total1.rows n.total2.rows n.total1.sum n.total2.sum
+abbrev pub sums : Tally → Sums
+sums n = record { rows = n.rows; reported1 = n.total1.rows; reported2 = n.total2.rows; sum1 = n.total1.sum; sum2 = n.total2.sum }
 
-unfoldable pub roll_up_answer : List ℤ → VersionRecord → ℤ → ℤ → Rolled
-roll_up_answer t v s key1 = unless (roll_up_refusal t v s) rolled.Refused (sums (tally key1 (seen t s (slots t))))
+unfoldable pub roll_up_answer : List ℤ → VersionRecord → ℤ → ℤ → Result Sums Refusal
+roll_up_answer t v s key1 = unless (roll_up_refusal t v s) (sums (tally key1 (seen t s (slots t))))
 
 -- the contract, and that it allows one outcome
-pub record RollUpContract (t : List ℤ) (v : VersionRecord) (s key1 : ℤ) (r : Rolled) : Type 0 where
+pub record RollUpContract (t : List ℤ) (v : VersionRecord) (s key1 : ℤ) (r : Result Sums Refusal) : Type 0 where
   pub answer : r ≡ roll_up_answer t v s key1
 
-pub one_outcome : {t : List ℤ} {v : VersionRecord} {s key1 : ℤ} {r r' : Rolled} → RollUpContract t v s key1 r → RollUpContract t v s key1 r' → r ≡ r'
+pub one_outcome : {t : List ℤ} {v : VersionRecord} {s key1 : ℤ} {r r' : Result Sums Refusal} → RollUpContract t v s key1 r → RollUpContract t v s key1 r' → r ≡ r'
 one_outcome a b = a.answer ∙ sym b.answer

@@ -1,16 +1,14 @@
 -- What bounds a roll-up: rows whose totals are lawful, and the counts and sums of at most so many of them. Assumes nothing.
 use Rattle.table_forms.specs.Totals.{Given, largest_total}
-use Rattle.reads.specs.declared.Seen.{Seen}
-use Rattle.reads.specs.declared.Seen.TheVariants.{Row, NoRow, Refused}
-use Rattle.std.specs.Prelude.{ℕ, ◌*◌, ◌≤◌, nat_abs}
+use Rattle.std.specs.Prelude.{ℕ, ◌*◌, ◌≤◌, nat_abs, Option, Some, None}
+use Rattle.reads.specs.declared.Row.{Row}
 use Rattle.reads_roll_up.specs.declared.Reported.{Reported}
 use Rattle.reads_roll_up.specs.declared.Tally.{Tally}
 
 -- ---- a row that is shown of a well formed slot has lawful totals
-abbrev pub LawfulRow : Seen → Type 0
-LawfulRow (Row key1 key2 total1 total2) = Given total1 total2
-LawfulRow NoRow = Unit {0}
-LawfulRow (Refused n) = Unit {0}
+abbrev pub LawfulRow : Option Row → Type 0
+LawfulRow (Some x) = Given x.total1 x.total2
+LawfulRow None = Unit {0}
 
 -- what at most k rows reported of a total
 pub record Within (k : ℕ) (n : Reported) : Type 0 where

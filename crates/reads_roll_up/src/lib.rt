@@ -9,21 +9,19 @@ ghost use Rattle.reads.specs.Table1.{shown};
 ghost use Rattle.reads_roll_up.specs.RollUpBounds.{LawfulRow, Within, Bounded};
 ghost use Rattle.reads_roll_up.specs.RollUp.{with_total, counted, tallied, RollUpContract};
 
+use refusals::Refusal;
 use table::{CURRENT1, CURRENT2, KEY1, OLD1, OLD2, OPERATION, RUN, SLOT_WORDS};
 use table_forms::{DELETE, UPDATE};
 use versions::VersionRecord;
 
-// What a roll-up answers: the count of rows, how many of them reported each total, and the sums of what they reported; or a refusal.
-#[derive(Clone, Copy)]
-pub enum Rolled {
-    Sums {
-        rows: u32,
-        reported1: u32,
-        reported2: u32,
-        sum1: i64,
-        sum2: i64,
-    },
-    Refused(u32),
+// What a roll-up answers: the count of rows, how many of them reported each total, and the sums of what they reported.
+#[derive(Clone, Copy, Debug, PartialEq, Eq)]
+pub struct Sums {
+    pub rows: u32,
+    pub reported1: u32,
+    pub reported2: u32,
+    pub sum1: i64,
+    pub sum2: i64,
 }
 
 // Of a total: how many rows reported it so far, and the sum of what they reported.
@@ -98,32 +96,31 @@ fn tally_slot(tally: Tally, table: &[i64], k: usize, session: i64, key1: i64) ->
 }
 
 // Roll-up, in one pass: each slot is tested, and then counted.
-pub fn roll_up(table: &[i64], versions: VersionRecord, session: i64, key1: i64) -> Rolled
+pub fn roll_up(
+    table: &[i64],
+    versions: VersionRecord,
+    session: i64,
+    key1: i64,
+) -> Result<Sums, Refusal>
     ensures { RollUpContract table.now versions session key1 result }
 {
-    let refusal = reads::session_refusal(table, versions, session);
-    if refusal != 0 {
-        return Rolled::Refused(refusal);
-    }
-    let slots = table::slots_of(table);
+    reads::test_session(table, versions, session)?;
     let mut tally = Tally {
         rows: 0,
         total1: Reported { rows: 0, sum: 0 },
         total2: Reported { rows: 0, sum: 0 },
     };
-    let mut k: usize = 0;
-    while k < slots {
+    for k in 0..table::slots_of(table) {
         if table_walks::is_broken_at(table, k, versions) {
-            return Rolled::Refused(refusals::BROKEN_SLOT);
+            return Err(Refusal::BrokenSlot);
         }
         tally = tally_slot(tally, table, k, session, key1);
-        k += 1;
     }
-    Rolled::Sums {
+    Ok(Sums {
         rows: tally.rows,
         reported1: tally.total1.rows,
         reported2: tally.total2.rows,
         sum1: tally.total1.sum,
         sum2: tally.total2.sum,
-    }
+    })
 }

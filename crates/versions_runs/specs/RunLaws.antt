@@ -1,61 +1,60 @@
 -- How the contracts of begin and commit are shown: a refusal leaves the record as it was; what is not refused is done. What
 -- was tested where a call is accepted, and what is left to test of a sound record. Assumes nothing.
-use Rattle.std.specs.Prelude.{◌≡◌, refl, true, false, ◌||◌, [], ◌∷◌, ℕ, suc, ◌+◌, ℤ, pos, negsuc, ◌+ℤ◌, ◌-ℤ◌}
+use Rattle.std.specs.Prelude.{◌≡◌, refl, Some, None, Result, Ok, Err, true, false, ◌||◌, [], ◌∷◌, suc, ◌+◌, ℤ, pos, negsuc, ◌+ℤ◌, ◌-ℤ◌}
 use Rattle.std.proofs.Common.{ap, ◌∙◌, sym, add-one, arith, leb-true, le-leb}
 use Rattle.std.proofs.Math.Bool.{or-true}
 use Rattle.std.specs.Int.Signed.{le_z}
 use Rattle.std.proofs.lemmas.Bool.{eqb-false}
+use Rattle.refusals.specs.declared.Refusal.{Refusal}
+use Rattle.refusals.specs.declared.Refusal.TheVariants as refusal
 use Rattle.laws.specs.TestLaws.{clash, not_no}
-use Rattle.laws.specs.FirstLaws.{unless_refused, unless-done, none, skip, done}
+use Rattle.laws.specs.FirstLaws.{unless_refused, unless-done, kept_refused, kept-done, none, skip, done}
 use Rattle.laws.specs.First.{first}
 use Rattle.laws.specs.OrderLaws.{eq_z_refl, next_low, previous}
 use Rattle.laws.specs.Order.{eq_z}
 use Rattle.versions.specs.declared.VersionRecord.{VersionRecord}
-use Rattle.versions_runs.specs.declared.Numbered.{Numbered}
-use Rattle.versions_runs.specs.declared.Numbered.TheVariants.{Version, Refused}
-use Rattle.versions_runs.specs.declared.Turned.{Turned}
 use Rattle.versions.specs.Record.{largest_version, bad_record, idle, run_number}
 use Rattle.versions.specs.RecordLaws.{sound, known}
-use Rattle.versions_runs.specs.Runs.{open_refusal, open_answer, kept_as, begin_refusal, begin_answer, begin_record, begun_from, BeginContract, commit_refusal, commit_answer, commit_record, committed_from, CommitContract, OpenContract}
+use Rattle.versions_runs.specs.Runs.{open_refusal, open_answer, begin_refusal, begin_answer, begin_record, begun_from, BeginContract, commit_refusal, commit_answer, commit_record, committed_from, CommitContract, OpenContract}
 
-pub begin_kept : {v : VersionRecord} {n : ℕ} → begin_refusal v ≡ n → (n ≡ 0 → ⊥) → BeginContract v (kept_as v n)
+pub begin_kept : {v v' : VersionRecord} {e : Refusal} → begin_refusal v ≡ Some e → v' ≡ v → BeginContract v (Err e) v'
 unfolding begin_answer begin_record
-begin_kept {v} e z = record { answer = unless_refused Refused (Version (run_number v)) e z; versions = unless_refused (λ n. v) (begun_from v) e z }
+begin_kept {v} h k = record { answer = unless_refused (run_number v) h; versions = kept_refused (begun_from v) h k }
 
-pub begin_done : {v : VersionRecord} {r : Turned} → begin_refusal v ≡ 0 → r.answer ≡ Version (run_number v) → r.versions ≡ begun_from v → BeginContract v r
+pub begin_done : {v v' : VersionRecord} {r : Result ℤ Refusal} → begin_refusal v ≡ None → r ≡ Ok (run_number v) → v' ≡ begun_from v → BeginContract v r v'
 unfolding begin_answer begin_record
-begin_done {v} e a b = record { answer = unless-done Refused e a; versions = unless-done (λ n. v) e b }
+begin_done {v} h a b = record { answer = unless-done h a; versions = kept-done v h b }
 
-pub commit_kept : {v : VersionRecord} {n : ℕ} → commit_refusal v ≡ n → (n ≡ 0 → ⊥) → CommitContract v (kept_as v n)
+pub commit_kept : {v v' : VersionRecord} {e : Refusal} → commit_refusal v ≡ Some e → v' ≡ v → CommitContract v (Err e) v'
 unfolding commit_answer commit_record
-commit_kept {v} e z = record { answer = unless_refused Refused (Version (run_number v)) e z; versions = unless_refused (λ n. v) (committed_from v) e z }
+commit_kept {v} h k = record { answer = unless_refused (run_number v) h; versions = kept_refused (committed_from v) h k }
 
-pub commit_done : {v : VersionRecord} {r : Turned} → commit_refusal v ≡ 0 → r.answer ≡ Version (run_number v) → r.versions ≡ committed_from v → CommitContract v r
+pub commit_done : {v v' : VersionRecord} {r : Result ℤ Refusal} → commit_refusal v ≡ None → r ≡ Ok (run_number v) → v' ≡ committed_from v → CommitContract v r v'
 unfolding commit_answer commit_record
-commit_done {v} e a b = record { answer = unless-done Refused e a; versions = unless-done (λ n. v) e b }
+commit_done {v} h a b = record { answer = unless-done h a; versions = kept-done v h b }
 
 -- ---- what comes of them by their refusal
-pub record TurnRefuses (n : ℕ) (v : VersionRecord) (r : Numbered) (v' : VersionRecord) : Type 0 where
-  pub answer : r ≡ Refused n
+pub record TurnRefuses (e : Refusal) (v : VersionRecord) (r : Result ℤ Refusal) (v' : VersionRecord) : Type 0 where
+  pub answer : r ≡ Err e
   pub record_kept : v' ≡ v
 
-pub begin_refuses : (v : VersionRecord) (n : ℕ) → begin_refusal v ≡ suc n → TurnRefuses (suc n) v (begin_answer v) (begin_record v)
+pub begin_refuses : (v : VersionRecord) (e : Refusal) → begin_refusal v ≡ Some e → TurnRefuses e v (begin_answer v) (begin_record v)
 unfolding begin_answer begin_record
-begin_refuses v n h = record { answer = rw h; record_kept = rw h }
+begin_refuses v e h = record { answer = rw h; record_kept = rw h }
 
-pub commit_refuses : (v : VersionRecord) (n : ℕ) → commit_refusal v ≡ suc n → TurnRefuses (suc n) v (commit_answer v) (commit_record v)
+pub commit_refuses : (v : VersionRecord) (e : Refusal) → commit_refusal v ≡ Some e → TurnRefuses e v (commit_answer v) (commit_record v)
 unfolding commit_answer commit_record
-commit_refuses v n h = record { answer = rw h; record_kept = rw h }
+commit_refuses v e h = record { answer = rw h; record_kept = rw h }
 
-pub record TurnAccepts (v : VersionRecord) (r : Numbered) (v' after : VersionRecord) : Type 0 where
-  pub answer : r ≡ Version (run_number v)
+pub record TurnAccepts (v : VersionRecord) (r : Result ℤ Refusal) (v' after : VersionRecord) : Type 0 where
+  pub answer : r ≡ Ok (run_number v)
   pub record_after : v' ≡ after
 
-pub begin_accepts : (v : VersionRecord) → begin_refusal v ≡ 0 → TurnAccepts v (begin_answer v) (begin_record v) (begun_from v)
+pub begin_accepts : (v : VersionRecord) → begin_refusal v ≡ None → TurnAccepts v (begin_answer v) (begin_record v) (begun_from v)
 unfolding begin_answer begin_record
 begin_accepts v h = record { answer = rw h; record_after = rw h }
 
-pub commit_accepts : (v : VersionRecord) → commit_refusal v ≡ 0 → TurnAccepts v (commit_answer v) (commit_record v) (committed_from v)
+pub commit_accepts : (v : VersionRecord) → commit_refusal v ≡ None → TurnAccepts v (commit_answer v) (commit_record v) (committed_from v)
 unfolding commit_answer commit_record
 commit_accepts v h = record { answer = rw h; record_after = rw h }
 
@@ -65,35 +64,35 @@ pub record CanBegin (v : VersionRecord) : Type 0 where
   pub idle : v.active ≡ false
   pub room : eq_z v.current largest_version ≡ false
 
-pub can_begin : (v : VersionRecord) → begin_refusal v ≡ 0 → CanBegin v
+pub can_begin : (v : VersionRecord) → begin_refusal v ≡ None → CanBegin v
 unfolding begin_refusal
 can_begin v h =
-    let no = none _ tt h in
-    record { known = no 2; idle = no 7; room = no 9 }
+    let no = none _ h in
+    record { known = no refusal.BadRecord; idle = no refusal.RunActive; room = no refusal.NoVersionLeft }
 
 -- ---- an accepted commit: the record is sound, and a run is active
 pub record CanCommit (v : VersionRecord) : Type 0 where
   pub known : bad_record v ≡ false
   pub active : v.active ≡ true
 
-pub can_commit : (v : VersionRecord) → commit_refusal v ≡ 0 → CanCommit v
+pub can_commit : (v : VersionRecord) → commit_refusal v ≡ None → CanCommit v
 unfolding commit_refusal
 can_commit v h =
-    let no = none _ tt h in
-    record { known = no 2; active = not_no (no 8) }
+    let no = none _ h in
+    record { known = no refusal.BadRecord; active = not_no (no refusal.NoRun) }
 
 -- ---- of a sound record open answers current, begin is refused by the run or by the versions left, commit by the run
-pub open_answers : (v : VersionRecord) → bad_record v ≡ false → open_answer v ≡ Version v.current
+pub open_answers : (v : VersionRecord) → bad_record v ≡ false → open_answer v ≡ Ok v.current
 unfolding open_answer open_refusal
-open_answers v b = rw (skip 2 [] b ∙ done)
+open_answers v b = rw (skip refusal.BadRecord [] b ∙ done)
 
-pub begin_left : (v : VersionRecord) → bad_record v ≡ false → begin_refusal v ≡ first ((v.active, 7) ∷ (eq_z v.current largest_version, 9) ∷ [])
+pub begin_left : (v : VersionRecord) → bad_record v ≡ false → begin_refusal v ≡ first ((v.active, refusal.RunActive) ∷ (eq_z v.current largest_version, refusal.NoVersionLeft) ∷ [])
 unfolding begin_refusal
-begin_left v b = skip 2 _ b
+begin_left v b = skip refusal.BadRecord _ b
 
-pub commit_left : (v : VersionRecord) → bad_record v ≡ false → commit_refusal v ≡ first ((idle v, 8) ∷ [])
+pub commit_left : (v : VersionRecord) → bad_record v ≡ false → commit_refusal v ≡ first ((idle v, refusal.NoRun) ∷ [])
 unfolding commit_refusal
-commit_left v b = skip 2 _ b
+commit_left v b = skip refusal.BadRecord _ b
 
 -- ---- what they leave is sound: a version is left to begin at, and the run's number is one of them
 below_largest : (c : ℤ) → le_z (pos 1) c ≡ true → le_z c largest_version ≡ true → eq_z c largest_version ≡ false → le_z (c +ℤ pos 1) largest_version ≡ true
@@ -105,7 +104,7 @@ kept_near : (c o : ℤ) → le_z (pos 1) c ≡ true → o ≡ c → (eq_z o (c +
 kept_near (pos c) o l e = rw (e, add-one c, previous c, eq_z_refl (pos c)) (or-true (eq_z (pos c) (pos (suc c))))
 kept_near (negsuc c) o l e = clash l refl
 
-pub begun-sound : (v : VersionRecord) → begin_refusal v ≡ 0 → bad_record (begun_from v) ≡ false
+pub begun-sound : (v : VersionRecord) → begin_refusal v ≡ None → bad_record (begun_from v) ≡ false
 begun-sound v h =
     let can = can_begin v h in
     let s = sound {v = v} can.known in
@@ -118,7 +117,7 @@ begun-sound v h =
       newest = λ a. refl;
     })
 
-pub committed_sound : (v : VersionRecord) → commit_refusal v ≡ 0 → bad_record (committed_from v) ≡ false
+pub committed_sound : (v : VersionRecord) → commit_refusal v ≡ None → bad_record (committed_from v) ≡ false
 committed_sound v h =
     let can = can_commit v h in
     let s = sound {v = v} can.known in
@@ -132,14 +131,11 @@ committed_sound v h =
     })
 
 -- ---- each contract allows one outcome
-pub one_opened : {v : VersionRecord} {r r' : Numbered} → OpenContract v r → OpenContract v r' → r ≡ r'
+pub one_opened : {v : VersionRecord} {r r' : Result ℤ Refusal} → OpenContract v r → OpenContract v r' → r ≡ r'
 one_opened a b = a.answer ∙ sym b.answer
 
-turned : {r r' : Turned} → r.answer ≡ r'.answer → r.versions ≡ r'.versions → r ≡ r'
-turned a v i = record { answer = a i; versions = v i }
+pub one_begun : {v u u' : VersionRecord} {r r' : Result ℤ Refusal} → BeginContract v r u → BeginContract v r' u' → (r ≡ r') × (u ≡ u')
+one_begun a b = (a.answer ∙ sym b.answer, a.versions ∙ sym b.versions)
 
-pub one_begun : {v : VersionRecord} {r r' : Turned} → BeginContract v r → BeginContract v r' → r ≡ r'
-one_begun a b = turned (a.answer ∙ sym b.answer) (a.versions ∙ sym b.versions)
-
-pub one_committed : {v : VersionRecord} {r r' : Turned} → CommitContract v r → CommitContract v r' → r ≡ r'
-one_committed a b = turned (a.answer ∙ sym b.answer) (a.versions ∙ sym b.versions)
+pub one_committed : {v u u' : VersionRecord} {r r' : Result ℤ Refusal} → CommitContract v r u → CommitContract v r' u' → (r ≡ r') × (u ≡ u')
+one_committed a b = (a.answer ∙ sym b.answer, a.versions ∙ sym b.versions)

@@ -1,65 +1,61 @@
-// Open, begin and commit: of the version record by value, and begin and commit also on a record that is lent.
+// Open, begin and commit. Begin and commit are handed the record and hand it back by value; on a record that is lent each is thin
+// over that. A refusal leaves the record as it was.
 #![tactic(auto)]
 
 ghost use Rattle.std.specs.Prelude.{◌≡◌};
-ghost use Rattle.versions_runs.specs.Runs.{OpenContract, kept_as, leaving, BeginContract, CommitContract};
+ghost use Rattle.versions_runs.specs.Runs.{OpenContract, kept_as, turned_to, BeginContract, CommitContract};
 
+use refusals::Refusal;
 use versions::VersionRecord;
 
-// What open, begin, commit and roll back answer: the number of a version, or a refusal.
-#[derive(Clone, Copy)]
-pub enum Numbered {
-    Version(i64),
-    Refused(u32),
-}
-
-// What begin, commit and roll back leave: their answer, and the record.
-#[derive(Clone, Copy)]
+// What a turn by value leaves: its answer, and the record.
+#[derive(Clone, Copy, Debug, PartialEq, Eq)]
 pub struct Turned {
-    pub answer: Numbered,
+    pub answer: Result<i64, Refusal>,
     pub versions: VersionRecord,
 }
 
 // Open: current, run or no run.
-pub fn open(versions: VersionRecord) -> Numbered
+pub fn open(versions: VersionRecord) -> Result<i64, Refusal>
     ensures { OpenContract versions result }
 {
     if versions::bad_record(versions) {
-        return Numbered::Refused(refusals::BAD_RECORD);
+        return Err(Refusal::BadRecord);
     }
     let current = versions.current;
-    Numbered::Version(current)
+    Ok(current)
 }
 
 // A refusal, with the record as it was.
-fn kept(versions: VersionRecord, number: u32) -> Turned
-    ensures { result ≡ kept_as versions number }
+fn kept(versions: VersionRecord, refusal: Refusal) -> Turned
+    ensures { result ≡ kept_as versions refusal }
 {
     Turned {
-        answer: Numbered::Refused(number),
-        versions: versions,
+        answer: Err(refusal),
+        versions,
     }
 }
 
-// Begin, by value. Its last test and the oldest open version stand in locals so that must-fail/begin_past_the_largest.edit can test
-// another number, and must-fail/begin_keeps_the_oldest.edit read the record's oldest, at the same places of the proof.
+// Begin, by value: the run's number. The last test and the oldest open version stand in locals so that
+// must-fail/begin_past_the_largest.edit can test another number, and must-fail/begin_keeps_the_oldest.edit read the record's oldest, at
+// the same places of the proof.
 pub fn begin_by_value(versions: VersionRecord) -> Turned
-    ensures { BeginContract versions result }
+    ensures { BeginContract versions result.answer result.versions }
 {
     if versions::bad_record(versions) {
-        return kept(versions, refusals::BAD_RECORD);
+        return kept(versions, Refusal::BadRecord);
     }
     if versions.active {
-        return kept(versions, refusals::RUN_ACTIVE);
+        return kept(versions, Refusal::RunActive);
     }
     let current = versions.current;
     let last = current == VersionRecord::LARGEST;
     if last {
-        return kept(versions, refusals::NO_VERSION_LEFT);
+        return kept(versions, Refusal::NoVersionLeft);
     }
     let oldest_open = versions.current;
     Turned {
-        answer: Numbered::Version(versions::run_number(versions)),
+        answer: Ok(versions::run_number(versions)),
         versions: VersionRecord {
             current: current,
             active: true,
@@ -68,23 +64,23 @@ pub fn begin_by_value(versions: VersionRecord) -> Turned
     }
 }
 
-// Commit, by value. Its two tests stand in locals so that must-fail/commit_without_a_run.edit can ask the first again in place of
-// the second, at the same places of the proof.
+// Commit, by value: the new current. Its two tests stand in locals so that must-fail/commit_without_a_run.edit can ask the first again
+// in place of the second, at the same places of the proof.
 pub fn commit_by_value(versions: VersionRecord) -> Turned
-    ensures { CommitContract versions result }
+    ensures { CommitContract versions result.answer result.versions }
 {
     let bad = versions::bad_record(versions);
     if bad {
-        return kept(versions, refusals::BAD_RECORD);
+        return kept(versions, Refusal::BadRecord);
     }
     let idle = !versions.active;
     if idle {
-        return kept(versions, refusals::NO_RUN);
+        return kept(versions, Refusal::NoRun);
     }
     let next = versions::run_number(versions);
     let oldest = versions.oldest;
     Turned {
-        answer: Numbered::Version(next),
+        answer: Ok(next),
         versions: VersionRecord {
             current: next,
             active: false,
@@ -93,24 +89,30 @@ pub fn commit_by_value(versions: VersionRecord) -> Turned
     }
 }
 
-// Begin on a lent record, altered where it stands: the answer and the record at exit are those of `begin_by_value`.
-pub fn begin(versions: &mut VersionRecord) -> Numbered
-    ensures { BeginContract versions.old (leaving result versions.new) }
+// A turn of a lent record, thin over a turn by value: the answer is its answer, and the record that it leaves is stored where it stood.
+pub fn turn<F: FnOnce(VersionRecord) -> Turned>(
+    by_value: F,
+    versions: &mut VersionRecord,
+) -> Result<i64, Refusal>
+    requires { F.pre by_value versions.old }
+    ensures { F.post by_value versions.old (turned_to result versions.new) }
 {
-    let was = *versions;
-    let turned = begin_by_value(was);
-    let marked = turned.versions;
-    *versions = marked;
+    let turned = by_value(*versions);
+    let left = turned.versions;
+    *versions = left;
     turned.answer
 }
 
-// Commit on a lent record, altered where it stands: the answer and the record at exit are those of `commit_by_value`.
-pub fn commit(versions: &mut VersionRecord) -> Numbered
-    ensures { CommitContract versions.old (leaving result versions.new) }
+// Begin, on a lent record.
+pub fn begin(versions: &mut VersionRecord) -> Result<i64, Refusal>
+    ensures { BeginContract versions.old result versions.new }
 {
-    let was = *versions;
-    let turned = commit_by_value(was);
-    let raised = turned.versions;
-    *versions = raised;
-    turned.answer
+    turn(begin_by_value, versions)
+}
+
+// Commit, on a lent record.
+pub fn commit(versions: &mut VersionRecord) -> Result<i64, Refusal>
+    ensures { CommitContract versions.old result versions.new }
+{
+    turn(commit_by_value, versions)
 }

@@ -1,2 +1,0 @@
-pub mod LentRecord
-pub mod Lent
