@@ -1,6 +1,5 @@
--- The lowest index below a bound that passes a test, or the bound where none does: that it is so, that nothing else is, that
--- the test may be replaced by one that agrees below the bound, and one step of a search for it; and that some index passes.
--- Assumes nothing.
+-- The lowest index below a bound that passes a test, or the bound where none does: that it is so, that nothing else is, and the steps
+-- of a search for it; that some index passes; and what a search answers that gives a place or none. Assumes nothing.
 use Rattle.std.specs.Prelude.{◌≡◌, refl, Bool, true, false, Option, Some, None, ℕ, zero, suc, ◌+◌, ◌≤◌, ◌<◌}
 use Rattle.std.proofs.Common.{ltb-true, lt-ltb, suc-le-suc, zero-le, le_of_suc-le-suc, not-suc-le-zero, lt_of_lt_of_le, lt_of_le_of_lt, sym, ◌∙◌, arith}
 use Rattle.std.proofs.lemmas.Bool.Decides.{nat_tests}

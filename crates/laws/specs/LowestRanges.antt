@@ -55,6 +55,6 @@ module _ {F : Type 0} (p : ℕ → Bool) (s u : Range ℕ) (f : F) where
           sym (some_yes p s.end (s.start + h.0) (omega arith) (subst (λ x. p x ≡ true) (at h.0 l) (h.2 0)))
       answers false h =
           sym (all_fail p s.end (past s.end b (λ j g l.
-              let i : j - s.start < s.end - s.start = omega arith in
-              let e : get_or all (j - s.start) 0 ≡ j = omega (arith, at (j - s.start) i) in
-              subst (λ x. p x ≡ false) e (h (j - s.start) 0 (omega arith) (omega (arith, long))))))
+          let i : j - s.start < s.end - s.start = omega arith in
+          let e : get_or all (j - s.start) 0 ≡ j = omega (arith, at (j - s.start) i) in
+          subst (λ x. p x ≡ false) e (h (j - s.start) 0 (omega arith) (omega (arith, long))))))

@@ -11,20 +11,20 @@ ghost use Rattle.table_free.specs.Free.{long_deleted, free, free_slot};
 ghost use Rattle.table_free.specs.FreeSearch.{Taken, Alive};
 
 use table::{OPERATION, SLOT_WORDS, Slot};
+use table_forms::Operation;
 use versions::VersionRecord;
 
 // The search passes so many slots at a time.
 const GROUP: usize = 4;
 
-#[tactic(auto, using(laws::specs::Bits::plain, laws::specs::Bits::eq_bits), unfolding(crate::specs::Free::long_deleted, laws::specs::Tests::all))]
 fn long_deleted(x: Slot, versions: VersionRecord) -> bool
     requires { bad_record versions ≡ false }
     ensures { result ≡ long_deleted x versions }
 {
-    let run = x.run;
-    let operation = x.operation;
     let running = versions::run_number(versions);
-    (operation == table_forms::DELETE) & (run < running) & table_forms::well_formed(x, versions)
+    (x.operation == Operation::Delete as i64)
+        & (x.run < running)
+        & table_forms::well_formed(x, versions)
 }
 
 #[tactic(auto, unfolding(crate::specs::Free::free))]

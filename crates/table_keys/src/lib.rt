@@ -12,6 +12,7 @@ ghost use Rattle.table_keys.specs.Keys.{has_key, key_slot};
 ghost use Rattle.table_keys.specs.KeySearch.{Keyless, comparing, IsKeyWord, Apart};
 
 use table::{KEY1, KEY2, OPERATION, SLOT_WORDS};
+use table_forms::Operation;
 
 // A table of at most so many slots is looked at one by one.
 const NEAR_SLOTS: usize = 16;
@@ -27,6 +28,7 @@ struct KeyWord {
 }
 
 impl KeyWord {
+    // The first key word, and the second.
     fn first(key1: i64) -> KeyWord
         ensures { result ≡ comparing key1_place key1 }
     {
@@ -57,7 +59,7 @@ impl KeyWord {
 }
 
 // Whether the slot at a place is used and has the key. The second key word is asked first: it tells most slots apart.
-#[tactic(auto, using(laws::specs::Bits::eq_bits, table::specs::SlotLaws::slot_from_lem), unfolding(crate::specs::Keys::has_key, laws::specs::Tests::all))]
+#[tactic(auto, using(laws::specs::Bits::eq_bits, crate::specs::KeyLaws::has_key_words), unfolding(laws::specs::Tests::all))]
 fn has_key(table: &[i64], k: usize, key1: i64, key2: i64) -> bool
     requires lawful_table { bad_table table.now ≡ false }
     requires in_table { k < slots table.now }
@@ -66,7 +68,7 @@ fn has_key(table: &[i64], k: usize, key1: i64, key2: i64) -> bool
     let at = k * SLOT_WORDS;
     table[at + KEY2] == key2
         && table[at + KEY1] == key1
-        && table[at + OPERATION] != table_forms::EMPTY
+        && table[at + OPERATION] != Operation::Empty as i64
 }
 
 // Whether none of the four slots from a place on has the key word that is compared.

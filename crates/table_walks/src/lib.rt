@@ -10,7 +10,7 @@ ghost use Rattle.table_forms.specs.Operations.{insert_operation, delete_operatio
 ghost use Rattle.table_forms.specs.Formed.{used_well, broken, any_broken};
 
 use table::{CURRENT1, CURRENT2, OLD1, OLD2, OPERATION, RUN, SLOT_WORDS};
-use table_forms::{DELETE, INSERT};
+use table_forms::Operation;
 use versions::VersionRecord;
 
 // Used well, of the slot at a place whose operation is 1 to 3. Words are read where they are asked for, and the totals are asked of in
@@ -31,14 +31,13 @@ fn used_well_at(table: &[i64], k: usize, versions: VersionRecord) -> bool
     let operation = table[at + OPERATION];
     let old1 = table[at + OLD1];
     let old2 = table[at + OLD2];
-    if !((operation != INSERT) | ((old1 == 0) & (old2 == 0))) {
+    if !((operation != Operation::Insert as i64) | ((old1 == 0) & (old2 == 0))) {
         return false;
     }
     table_forms::are_lawful(table[at + CURRENT1], table[at + CURRENT2], old1, old2)
 }
 
 // Refusal 6, of the slot at a place.
-#[tactic(auto, using(laws::specs::Bits::plain, table::specs::SlotLaws::slot_from_lem, table_forms::specs::FormedLaws::formed_used, table_forms::specs::FormedLaws::formed_unused))]
 pub fn is_broken_at(table: &[i64], k: usize, versions: VersionRecord) -> bool
     requires lawful_table { bad_table table.now ≡ false }
     requires in_table { k < slots table.now }
@@ -46,7 +45,7 @@ pub fn is_broken_at(table: &[i64], k: usize, versions: VersionRecord) -> bool
     ensures { result ≡ broken (slot_at table.now k) versions }
 {
     let operation = table[k * SLOT_WORDS + OPERATION];
-    if (INSERT <= operation) & (operation <= DELETE) {
+    if (Operation::Insert as i64 <= operation) & (operation <= Operation::Delete as i64) {
         return !used_well_at(table, k, versions);
     }
     !table_forms::all_zeros(table::slot_within(table, k))

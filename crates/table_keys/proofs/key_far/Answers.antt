@@ -1,6 +1,6 @@
 -- `table_keys::key_far`: a group is passed since its four slots lie apart or since none of them has the key, and what the searches one
 -- by one find is the lowest of all. Assumes nothing.
-use Rattle.std.proofs.Common.{arith}
+use Rattle.std.proofs.Common.{rules, arith}
 use Rattle.laws.specs.Bits.{plain}
 use Rattle.laws.specs.LowestLaws.{found_later, passed_all}
 use Rattle.table_keys.specs.Keys.{key_slot}
@@ -16,6 +16,6 @@ pub loop-group-preserved : goal.loop-group-preserved
 loop-group-preserved c =
     let inv = c.loop-group.invariant in
     elim c.if-not-four_apart.branch [
-      | then-not-four_apart+in_default w ↦ (λ j h. passed_all _ _ w.key_from-found.ensures (cc) j (omega arith), rw w.compared-is w.other-compared.ensures)
-      | else-not-four_apart w ↦ (λ j h. past_four _ inv.1 (c.four_apart.ensures w.if-not-four_apart.false) inv.0 j (omega arith), rw w.compared-is inv.1)
+      | then-not-four_apart+in_default w ↦ (λ j h. passed_all _ _ w.key_from-found.ensures (cc) j (omega arith), search rules)
+      | else-not-four_apart w ↦ (λ j h. past_four _ inv.1 (c.four_apart.ensures w.if-not-four_apart.false) inv.0 j (omega arith), search rules)
     ]
