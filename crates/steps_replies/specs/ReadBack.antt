@@ -1,22 +1,22 @@
 -- A number that is written is read back: for every z of 64 signed bits its decimal digits, with a minus if it is below 0, are the
 -- number z. Assumes nothing.
-use Rattle.std.specs.Prelude.{◌≡◌, refl, true, ℕ, suc, ◌<◌, ◌^◌, ℤ, pos, negsuc, length, get_or, Some}
-use Rattle.std.proofs.Common.{◌∙◌, arith, rules, lt-ltb, le-leb, SFits}
+use Rattle.std.specs.Prelude.{◌≡◌, refl, true, ℕ, suc, ◌<◌, ◌^◌, ℤ, pos, negsuc, get_or, Some}
+use Rattle.std.proofs.Common.{ap, ◌∙◌, arith, rules, lt-ltb, le-leb, SFits}
 use Rattle.std.proofs.lemmas.Fmt.{digits_decimal, digits_value-decimal, decimal_nonempty, length-decimal-le, decimal_is_IsNumeral}
 use Rattle.std.proofs.lemmas.Str.Parse.{IsNumeralModel, numerals_by_fold, digit_at}
 use Rattle.std.specs.Fmt.{decimal, signed_decimal}
 use Rattle.std.specs.Int.{w64}
 use Rattle.steps_commands.specs.Numerals.{minus_byte, signed_limit, all_digits, decimal_from, digits_of, number_of}
-use Rattle.steps_commands.specs.NumeralLaws.{minus_field, plain_field}
+use Rattle.steps_commands.specs.NumeralLaws.{digits_make, minus_field, plain_field}
 
 own : IsNumeralModel (λ bs. all_digits bs ≡ true) (decimal_from 0)
 own = numerals_by_fold _ (search rules) decimal_from (search rules)
 
 -- the digits of a number make it
 digits_made : (n : ℕ) → n < 10 ^ 19 → digits_of (decimal n) ≡ Some n
-unfolding digits_of
 digits_made n l =
-    simp (le-leb 1 (length (decimal n)) (decimal_nonempty n (omega arith)), le-leb (length (decimal n)) 19 (length-decimal-le 19 n (omega arith) l (omega arith)), digits_decimal own n (omega arith), digits_value-decimal own n (omega arith))
+    digits_make (decimal n) (decimal_nonempty n (omega arith)) (length-decimal-le 19 n (omega arith) l (omega arith)) (digits_decimal own n (omega arith))
+    ∙ ap Some (digits_value-decimal own n (omega arith))
 
 no_minus : (n : ℕ) → n < 10 ^ 19 → get_or (decimal n) 0 0 ≡ minus_byte → ⊥
 no_minus n l e =
