@@ -4,10 +4,11 @@ use Rattle.std.proofs.Common.{ap, ap₂, ◌∙◌, arith, leb-true}
 use Rattle.std.proofs.Math.Bool.{or-true, or-false, and-true}
 use Rattle.std.specs.Int.Signed.{le_z}
 use Rattle.std.proofs.lemmas.Bool.{eqb-false}
-use Rattle.laws.specs.TestLaws.{all-at, all_no, by_test, clash, not_no}
+use Rattle.laws.specs.TestLaws.{all-at, all_no, by_test, clash, not_no, not_yes}
 use Rattle.laws.specs.Tests.{all}
 use Rattle.laws.specs.OrderLaws.{eq_z_true, from_to_lem, le_z_trans}
 use Rattle.laws.specs.Order.{eq_z, from_to}
+use Rattle.laws.specs.Lowest.{some}
 use Rattle.laws.specs.LowestLaws.{none_passes, all_fail}
 use Rattle.versions.specs.declared.VersionRecord.{VersionRecord}
 use Rattle.versions.specs.Record.{last_run}
@@ -96,10 +97,19 @@ module _ (x : Slot) (v : VersionRecord) where
 pub live_used : (x : Slot) (v : VersionRecord) → live x ≡ true → well_formed x v ≡ true → Used x v
 live_used x v l w = formed_cases x v w (λ e. clash l (rw e dead_empty)) (λ u. u)
 
+-- ---- some slot is broken
+pub any_broken_is : (t : List ℤ) (v : VersionRecord) → any_broken t v ≡ some (λ k. broken (slot_at t k) v) (slots t)
+unfolding any_broken
+any_broken_is t v = refl
+
 -- ---- where no slot is broken, each is well formed
 pub none-broken : (t : List ℤ) (v : VersionRecord) → any_broken t v ≡ false → (k : ℕ) → k < slots t → well_formed (slot_at t k) v ≡ true
 unfolding any_broken
 none-broken t v h k l = not_no (none_passes (λ j. broken (slot_at t j) v) (slots t) h k l)
+
+-- and where one is broken, some is
+pub one_broken : (t : List ℤ) (v : VersionRecord) (k : ℕ) → k < slots t → broken (slot_at t k) v ≡ true → any_broken t v ≡ true
+one_broken t v k l b = by_test (any_broken t v) (λ y. y) (λ n. clash (none-broken t v n k l) (not_yes b))
 
 -- ---- a used slot that is not live was deleted
 three : (z : ℤ) → from_to insert_operation delete_operation z ≡ true → eq_z z insert_operation ≡ false → eq_z z update_operation ≡ false → z ≡ delete_operation
@@ -122,6 +132,9 @@ formed_later x v w l h =
     used_formed (search (ap₂ ◌&&◌ r.low (le_z_trans x.run (last_run v) (last_run w) r.high l))))
 
 -- ---- where each slot is well formed, none is broken
-pub all_formed : (t : List ℤ) (v : VersionRecord) → ((k : ℕ) → well_formed (slot_at t k) v ≡ true) → any_broken t v ≡ false
+pub each_formed : (t : List ℤ) (v : VersionRecord) → ((k : ℕ) → k < slots t → well_formed (slot_at t k) v ≡ true) → any_broken t v ≡ false
 unfolding any_broken
-all_formed t v f = all_fail _ (slots t) (λ k l. ap not (f k))
+each_formed t v f = all_fail _ (slots t) (λ k l. ap not (f k l))
+
+pub all_formed : (t : List ℤ) (v : VersionRecord) → ((k : ℕ) → well_formed (slot_at t k) v ≡ true) → any_broken t v ≡ false
+all_formed t v f = each_formed t v (λ k l. f k)
