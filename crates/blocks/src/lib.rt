@@ -117,7 +117,7 @@ pub fn load_header(block: &[u8]) -> Result<Header, Refusal>
     let current = word_at(block, CURRENT_PLACE);
     let oldest = word_at(block, OLDEST_PLACE);
     Ok(Header {
-        slots: slots,
+        slots,
         current: i64::from(current),
         oldest: blocks_headers::oldest_of(current, oldest),
     })
