@@ -5,6 +5,7 @@ use mathlib.Core.Bool.{false}
 use mathlib.Core.List.{List, ◌∷◌, map}
 use Prim.Native.Nat.{ℕ, zero, suc}
 use lib.IntN.{ℤ, pos}
+use Rattle.std.specs.Prelude.{Ok}
 use Rattle.table.specs.Slots.{bad_table, slot_at}
 use Rattle.table_forms.specs.FormedLaws.{all_formed}
 use Rattle.table_keys.specs.Keys.{key_slot}

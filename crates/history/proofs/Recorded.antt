@@ -9,6 +9,7 @@ use native.Mathlib.Omega.{arith}
 use lib.Dec.{leb, ltb}
 use lib.IntN.{pos, nat_abs, ◌+ℤ◌}
 use borrow.Author.Tests.{ltb-true, ltb-false, le-ltb, le-leb, lt-leb}
+use Rattle.std.specs.Prelude.{None}
 use Rattle.laws.specs.TestLaws.{by_test}
 use Rattle.versions.specs.declared.VersionRecord.{VersionRecord}
 use Rattle.versions.specs.Record.{bad_record, run_number}
@@ -74,7 +75,7 @@ module _ {v : VersionRecord} {g : Followed} (x : Recorded v g) where
     expiry = λ s h. x.expiry s (record { from = h.from; to = h.to });
   }
 
-  pub begin_recorded : begin_refusal v ≡ 0 → Recorded (begun_from v) (run_begun g)
+  pub begin_recorded : begin_refusal v ≡ None → Recorded (begun_from v) (run_begun g)
   begin_recorded h = record {
     known = begun-sound v h;
     origin = x.origin;
@@ -93,7 +94,7 @@ module _ {v : VersionRecord} {g : Followed} (x : Recorded v g) where
     expiry = λ s c. expires (rolled_back_from v) (current g) s ((sound x.known).newest a ∙ x.version) ∙ rw begun (below_gone (current g) s);
   }
 
-  module _ (h : commit_refusal v ≡ 0) where
+  module _ (h : commit_refusal v ≡ None) where
     pub commit_runs : g.active ≡ true
     commit_runs = sym x.active ∙ (can_commit v h).active
 
