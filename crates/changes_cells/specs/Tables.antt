@@ -1,11 +1,14 @@
 -- Tables 2, 3 and 4 of RULES.md (The decision tables, What a change writes): what a put and a delete write on a slot, chosen by
 -- older or same run and by operation. Only this crate unfolds `changed`. Assumes nothing.
-use Rattle.std.specs.Prelude.{cond, List, [], ◌∷◌, ℕ, ℤ, pos, get_or}
+use Rattle.std.specs.Prelude.{cond, ℤ, pos}
 use Rattle.std.specs.Int.Signed.{lt_z}
-use Rattle.laws.specs.Cells.{cell_at}
 use Rattle.table.specs.declared.Slot.{Slot}
 use Rattle.table.specs.Slots.{empty}
 use Rattle.table_forms.specs.Operations.{insert_operation, update_operation, delete_operation, column, live}
+use Rattle.table_forms.specs.declared.DecisionTable.{DecisionTable}
+use Rattle.table_forms.specs.DecisionTables.{cell_at}
+use Rattle.changes_cells.specs.declared.Cell.{Cell}
+use Rattle.changes_cells.specs.declared.Cell.TheVariants.{Never, New, Restore, Save, Correct, Remove, Erase, Mark}
 
 -- ---- what a change leaves of the slot x, by run m, with the totals that are given
 -- old totals 0, current totals given, m, insert
@@ -38,67 +41,46 @@ abbrev pub marked : Slot → Slot
 marked x =
     record { run = x.run; operation = delete_operation; key1 = x.key1; key2 = x.key2; current1 = x.current1; current2 = x.current2; old1 = x.old1; old2 = x.old2 }
 
--- ---- the cells: impossible, and one for each of the above
-abbrev pub impossible : ℕ
-impossible = 0
+-- the slot that each cell leaves; an impossible one leaves the slot as it is
+abbrev pub written : Cell → ℤ → Slot → ℤ → ℤ → ℤ → ℤ → Slot
+written Never m x key1 key2 total1 total2 = x
+written New m x key1 key2 total1 total2 = new_insert m key1 key2 total1 total2
+written Restore m x key1 key2 total1 total2 = restored x total1 total2
+written Save m x key1 key2 total1 total2 = saved m x total1 total2
+written Correct m x key1 key2 total1 total2 = corrected x total1 total2
+written Remove m x key1 key2 total1 total2 = removed m x
+written Erase m x key1 key2 total1 total2 = empty
+written Mark m x key1 key2 total1 total2 = marked x
 
-abbrev pub to_insert : ℕ
-to_insert = 1
-
-abbrev pub to_restore : ℕ
-to_restore = 2
-
-abbrev pub to_save : ℕ
-to_save = 3
-
-abbrev pub to_correct : ℕ
-to_correct = 4
-
-abbrev pub to_remove : ℕ
-to_remove = 5
-
-abbrev pub to_erase : ℕ
-to_erase = 6
-
-abbrev pub to_mark : ℕ
-to_mark = 7
-
--- the slot that each cell leaves, in the order of the cells; an impossible one leaves the slot as it is
-abbrev pub written : ℕ → ℤ → Slot → ℤ → ℤ → ℤ → ℤ → Slot
-written cell m x key1 key2 total1 total2 =
-    get_or (x
-    ∷ new_insert m key1 key2 total1 total2
-    ∷ restored x total1 total2
-    ∷ saved m x total1 total2
-    ∷ corrected x total1 total2
-    ∷ removed m x
-    ∷ empty
-    ∷ marked x
-    ∷ []) cell x
-
--- ---- the tables. The first row is that of an older run, the second that of this run; the
--- columns are empty, insert, update, delete. A key with no slot has the empty one, whose run number 0 is older
+-- ---- the tables. The first row is that of an older run, the second that of this run. A key with no slot has the empty one,
+-- whose run number 0 is older
 -- Table 2, a put of a key that is not live; its empty column is that of a key without a slot
-abbrev pub table2 : List ℕ
-table2 = to_insert ∷ impossible ∷ impossible ∷ to_insert
-    ∷ impossible ∷ impossible ∷ impossible ∷ to_restore ∷ []
+abbrev pub table2 : DecisionTable Cell
+table2 = record {
+  holds = record { empty = New; insert = Never; update = Never; delete = New };
+  fails = record { empty = Never; insert = Never; update = Never; delete = Restore };
+}
 
 -- Table 3, a put of a live key
-abbrev pub table3 : List ℕ
-table3 = impossible ∷ to_save ∷ to_save ∷ impossible
-    ∷ impossible ∷ to_correct ∷ to_correct ∷ impossible ∷ []
+abbrev pub table3 : DecisionTable Cell
+table3 = record {
+  holds = record { empty = Never; insert = Save; update = Save; delete = Never };
+  fails = record { empty = Never; insert = Correct; update = Correct; delete = Never };
+}
 
 -- Table 4, delete
-abbrev pub table4 : List ℕ
-table4 = impossible ∷ to_remove ∷ to_remove ∷ impossible
-    ∷ impossible ∷ to_erase ∷ to_mark ∷ impossible ∷ []
+abbrev pub table4 : DecisionTable Cell
+table4 = record {
+  holds = record { empty = Never; insert = Remove; update = Remove; delete = Never };
+  fails = record { empty = Never; insert = Erase; update = Mark; delete = Never };
+}
 
 -- what run m leaves of x by a decision table, for the key and the totals that are given
-unfoldable pub changed : List ℕ → ℤ → Slot → ℤ → ℤ → ℤ → ℤ → Slot
+unfoldable pub changed : DecisionTable Cell → ℤ → Slot → ℤ → ℤ → ℤ → ℤ → Slot
 changed table m x key1 key2 total1 total2 = written (cell_at table (lt_z x.run m) (column x)) m x key1 key2 total1 total2
 
 -- a put of a live key goes by Table 3, of any other by Table 2
-abbrev pub put_table : Slot → List ℕ
+abbrev pub put_table : Slot → DecisionTable Cell
 put_table x = cond (live x) table3 table2
 
 -- what a put by run m leaves of x

@@ -2,123 +2,89 @@
 // here are leaves for our other crates.
 #![tactic(auto)]
 
-ghost use Rattle.std.specs.Prelude.{◌≡◌, false};
-ghost use Rattle.versions.specs.Record.{bad_record, run_number};
-ghost use Rattle.changes_cells.specs.Tables.{new_insert, restored, saved, corrected, removed, marked, written, changed};
+ghost use Rattle.std.specs.Prelude.{◌≡◌};
+ghost use Rattle.changes_cells.specs.Tables.{corrected, written, changed};
 
 use table::Slot;
-use versions::VersionRecord;
+use table_forms::{DecisionTable, Operation};
 
-// The cells of the decision tables: what a change leaves of its slot, and what is impossible.
-pub const NEVER: u8 = 0;
+// A cell of Tables 2 to 4: what a change leaves of its slot. The refusals keep a call from one that says never.
+#[derive(Clone, Copy, Debug, PartialEq, Eq)]
+pub enum Cell {
+    Never,
+    New,
+    Restore,
+    Save,
+    Correct,
+    Remove,
+    Erase,
+    Mark,
+}
 
-pub const NEW: u8 = 1;
+// What a change is given: its key, and the totals of a put.
+#[derive(Clone, Copy)]
+pub struct Given {
+    pub key1: i64,
+    pub key2: i64,
+    pub total1: i64,
+    pub total2: i64,
+}
 
-pub const RESTORE: u8 = 2;
-
-pub const SAVE: u8 = 3;
-
-pub const CORRECT: u8 = 4;
-
-pub const REMOVE: u8 = 5;
-
-pub const ERASE: u8 = 6;
-
-pub const MARK: u8 = 7;
-
-// What each cell leaves of a slot, a function a cell.
-fn new_insert(run: i64, key1: i64, key2: i64, total1: i64, total2: i64) -> Slot
-    ensures { result ≡ new_insert run key1 key2 total1 total2 }
+// A slot with the totals that are given as its current ones.
+fn with_totals(x: Slot, given: Given) -> Slot
+    ensures { result ≡ corrected x given.total1 given.total2 }
 {
     Slot {
-        run: run,
-        operation: table_forms::INSERT,
-        key1: key1,
-        key2: key2,
-        current1: total1,
-        current2: total2,
-        old1: 0,
-        old2: 0,
+        current1: given.total1,
+        current2: given.total2,
+        ..x
     }
-}
-
-fn restore(mut x: Slot, total1: i64, total2: i64) -> Slot
-    ensures { result ≡ restored x total1 total2 }
-{
-    x.operation = table_forms::UPDATE;
-    x.current1 = total1;
-    x.current2 = total2;
-    x
-}
-
-fn save(run: i64, mut x: Slot, total1: i64, total2: i64) -> Slot
-    ensures { result ≡ saved run x total1 total2 }
-{
-    x.run = run;
-    x.operation = table_forms::UPDATE;
-    x.old1 = x.current1;
-    x.old2 = x.current2;
-    x.current1 = total1;
-    x.current2 = total2;
-    x
-}
-
-fn correct(mut x: Slot, total1: i64, total2: i64) -> Slot
-    ensures { result ≡ corrected x total1 total2 }
-{
-    x.current1 = total1;
-    x.current2 = total2;
-    x
-}
-
-fn remove(run: i64, mut x: Slot) -> Slot
-    ensures { result ≡ removed run x }
-{
-    x.run = run;
-    x.operation = table_forms::DELETE;
-    x.old1 = x.current1;
-    x.old2 = x.current2;
-    x
-}
-
-fn mark(mut x: Slot) -> Slot
-    ensures { result ≡ marked x }
-{
-    x.operation = table_forms::DELETE;
-    x
 }
 
 // What a cell leaves of a slot.
-fn write_cell(cell: u8, run: i64, x: Slot, key1: i64, key2: i64, total1: i64, total2: i64) -> Slot
-    ensures { result ≡ written cell run x key1 key2 total1 total2 }
+fn write_cell(cell: Cell, run: i64, x: Slot, given: Given) -> Slot
+    ensures { result ≡ written cell run x given.key1 given.key2 given.total1 given.total2 }
 {
     match cell {
-        NEW => new_insert(run, key1, key2, total1, total2),
-        RESTORE => restore(x, total1, total2),
-        SAVE => save(run, x, total1, total2),
-        CORRECT => correct(x, total1, total2),
-        REMOVE => remove(run, x),
-        ERASE => table::empty_slot(),
-        MARK => mark(x),
-        _ => x,
+        Cell::Never => x,
+        Cell::New => Slot {
+            run,
+            operation: Operation::Insert as i64,
+            key1: given.key1,
+            key2: given.key2,
+            ..with_totals(table::empty_slot(), given)
+        },
+        Cell::Restore => Slot {
+            operation: Operation::Update as i64,
+            ..with_totals(x, given)
+        },
+        Cell::Save => Slot {
+            run,
+            operation: Operation::Update as i64,
+            old1: x.current1,
+            old2: x.current2,
+            ..with_totals(x, given)
+        },
+        Cell::Correct => with_totals(x, given),
+        Cell::Remove => Slot {
+            run,
+            operation: Operation::Delete as i64,
+            old1: x.current1,
+            old2: x.current2,
+            ..x
+        },
+        Cell::Erase => table::empty_slot(),
+        Cell::Mark => Slot {
+            operation: Operation::Delete as i64,
+            ..x
+        },
     }
 }
 
-// What the active run leaves of a slot by a decision table: a row for an older run, then a row for this run; to a row the columns
-// empty, insert, update, delete.
-pub fn change(
-    cells: [u8; 8],
-    versions: VersionRecord,
-    x: Slot,
-    key1: i64,
-    key2: i64,
-    total1: i64,
-    total2: i64,
-) -> Slot
-    requires { bad_record versions ≡ false }
-    ensures { result ≡ changed cells (run_number versions) x key1 key2 total1 total2 }
+// What a run leaves of a slot by a decision table, whose test is that the slot is of an older run.
+pub fn change(cells: DecisionTable<Cell>, run: i64, x: Slot, given: Given) -> Slot
+    ensures { result ≡ changed cells run x given.key1 given.key2 given.total1 given.total2 }
 {
-    let run = versions::run_number(versions);
-    let cell = table_forms::cell_of(cells, x.run < run, table_forms::column_of(x));
-    write_cell(cell, run, x, key1, key2, total1, total2)
+    let cell = cells.cell(x.run < run, table_forms::column_of(x));
+    write_cell(cell, run, x, given)
 }

@@ -10,7 +10,6 @@ pub mod OrderLaws
 pub mod Bits
 pub mod Sums
 pub mod Stores
-pub mod Cells
 pub mod Permutations
 pub mod Digits
 pub mod DigitLaws

@@ -1,58 +1,95 @@
--- What a line asks, in the order in which the code goes: the first byte is the letter, the second a space, and what follows is
--- as many numbers as the letter has. At most one letter's test holds. Assumes nothing.
-use Rattle.std.specs.Prelude.{◌≡◌, refl, true, false, List, [], ◌∷◌, ℕ, suc, ◌≤◌, eqb, length, get_or, drop}
-use Rattle.std.proofs.Common.{sym, arith, eqb-true, ne_eqb}
-use Rattle.std.proofs.Math.Bool.{and-false, and-true}
-use Rattle.std.proofs.Math.Dec.{eqb-suc-suc}
-use Rattle.laws.specs.TestLaws.{by_test, clash}
-use Rattle.steps_commands.specs.declared.Command.TheVariants.{Put, Delete, Read, Bad}
-use Rattle.steps_commands.specs.Commands.{space_byte, fields, command_of, asked}
-use Rattle.steps_commands.specs.CountLaws.{two_asked, three_asked, four_asked}
-use Rattle.steps_commands.specs.FieldLaws.{some-fields}
-use Rattle.steps_commands.specs.CommandParts.{bare_of, numbered_of}
+-- What a line asks, by its first two bytes: the letter, and a space before its numbers. Assumes nothing.
+use Rattle.std.specs.Prelude.{◌≡◌, refl, Bool, true, false, cond, List, [], ◌∷◌, ℕ, ◌≤◌, ◌<◌, eqb, length, get_or, drop, None, Some, option_map}
+use Rattle.std.proofs.Common.{◌∙◌, arith, ne_eqb}
+use Rattle.std.specs.List.{slice_split, onto_first}
+use Rattle.laws.specs.TestLaws.{by_test, by_place}
+use Rattle.steps_commands.specs.declared.Command.TheVariants.{Begin, Commit, Put, Delete, Read}
+use Rattle.steps_commands.specs.Commands.{space_byte, fields, numbers_of, number, command_of, asked}
 
 -- a letter alone
-command_bare : (b : ℕ) → command_of ((b ∷ []) ∷ []) ≡ bare_of b
-unfolding bare_of
-command_bare b = simp (and-false, and-true)
+bare : (line : List ℕ) (b : ℕ) → length line ≡ 1 → get_or line 0 0 ≡ b → eqb b space_byte ≡ false → asked line ≡ command_of ((b ∷ []) ∷ [])
+unfolding asked fields
+bare [] b n e h = absurd (omega (arith, n))
+bare (x ∷ []) b n e h = rw (e, h) refl
+bare (x ∷ y ∷ xs) b n e h = absurd (omega (arith, n))
 
--- a letter and fields: at most one letter's test holds
-command_numbered : (b : ℕ) (g : List ℕ) (gs : List (List ℕ)) → command_of ((b ∷ []) ∷ g ∷ gs) ≡ numbered_of b (g ∷ gs)
-unfolding numbered_of
-command_numbered b g gs =
-    let fs = g ∷ gs in
-    by_test (eqb b 80) (λ y. rw (eqb-true b 80 y, eqb-suc-suc (length fs) 4) (four_asked fs Put))
-    (λ p. by_test (eqb b 68) (λ y. rw (eqb-true b 68 y, eqb-suc-suc (length fs) 2) (two_asked fs Delete))
-    (λ d. by_test (eqb b 82) (λ y. rw (eqb-true b 82 y, eqb-suc-suc (length fs) 3) (three_asked fs Read))
-    (λ r. simp (ne_eqb (suc (length fs)) 1 (omega arith), and-false, p, d, r))))
+pub begin_line : (line : List ℕ) → length line ≡ 1 → get_or line 0 0 ≡ 66 → asked line ≡ Some Begin
+unfolding numbers_of
+begin_line line n e = bare line 66 n e refl
 
--- ---- a line by its first two bytes
-pub empty_line : (line : List ℕ) → length line ≡ 0 → Bad ≡ asked line
+pub commit_line : (line : List ℕ) → length line ≡ 1 → get_or line 0 0 ≡ 67 → asked line ≡ Some Commit
+unfolding numbers_of
+commit_line line n e = bare line 67 n e refl
+
+-- a letter, and what follows the space after it
+pub numbered : (line : List ℕ) (b : ℕ) → get_or line 0 0 ≡ b → get_or line 1 0 ≡ space_byte → eqb b space_byte ≡ false
+    → asked line ≡ command_of ((b ∷ []) ∷ fields (drop 2 line))
+unfolding asked fields
+numbered [] b e s h = absurd (omega (arith, s))
+numbered (x ∷ []) b e s h = absurd (omega (arith, s))
+numbered (x ∷ y ∷ xs) b e s h = rw (e, s, h) refl
+
+pub put_line : (line : List ℕ) → get_or line 0 0 ≡ 80 → get_or line 1 0 ≡ space_byte
+    → asked line ≡ option_map (λ n. Put (number n 0) (number n 1) (number n 2) (number n 3)) (numbers_of 4 (fields (drop 2 line)))
+put_line line e s = numbered line 80 e s refl
+
+pub delete_line : (line : List ℕ) → get_or line 0 0 ≡ 68 → get_or line 1 0 ≡ space_byte
+    → asked line ≡ option_map (λ n. Delete (number n 0) (number n 1)) (numbers_of 2 (fields (drop 2 line)))
+delete_line line e s = numbered line 68 e s refl
+
+pub read_line : (line : List ℕ) → get_or line 0 0 ≡ 82 → get_or line 1 0 ≡ space_byte
+    → asked line ≡ option_map (λ n. Read (number n 0) (number n 1) (number n 2)) (numbers_of 3 (fields (drop 2 line)))
+read_line line e s = numbered line 82 e s refl
+
+-- ---- anything else
+pub same : {A : Type 0} (t : Bool) (x : A) → cond t x x ≡ x
+same true x = refl
+same false x = refl
+
+pub empty_line : (line : List ℕ) → length line < 1 → asked line ≡ None
 unfolding asked fields
 empty_line [] l = refl
-empty_line (b ∷ bs) l = absurd (omega arith)
+empty_line (b ∷ bs) l = absurd (omega (arith, l))
 
-pub bare_line : (line : List ℕ) → length line ≡ 1 → bare_of (get_or line 0 0) ≡ asked line
-unfolding asked fields bare_of
-bare_line [] l = absurd (omega arith)
-bare_line (b ∷ []) l =
-    by_test (eqb b space_byte) (λ y. rw (eqb-true b space_byte y) refl) (λ n. rw n (sym (command_bare b)))
-bare_line (b ∷ c ∷ bs) l = absurd (omega arith)
+pub other_letter : (line : List ℕ) → length line < 2 → (get_or line 0 0 ≡ 66 → ⊥) → (get_or line 0 0 ≡ 67 → ⊥) → asked line ≡ None
+unfolding asked fields numbers_of
+other_letter [] l b c = refl
+other_letter (x ∷ []) l b c = by_test (eqb x space_byte) (λ y. rw y refl) (λ n. simp (n, ne_eqb x 66 b, ne_eqb x 67 c, same))
+other_letter (x ∷ y ∷ xs) l b c = absurd (omega (arith, l))
 
-pub numbered_line : (line : List ℕ) → eqb (get_or line 1 0) space_byte ≡ true → numbered_of (get_or line 0 0) (fields (drop 2 line)) ≡ asked line
-unfolding asked fields numbered_of
-numbered_line [] h = clash h refl
-numbered_line (b ∷ []) h = clash h refl
-numbered_line (b ∷ c ∷ bs) h =
-    let s = some-fields bs in
-    by_test (eqb b space_byte)
-    (λ y. rw (y, eqb-true b space_byte y) refl)
-    (λ n. rw (n, h, s.are) (sym (command_numbered b s.head s.rest)))
+-- there is a field after a space
+after_space : (line : List ℕ) → numbers_of 0 (fields line) ≡ None
+unfolding fields numbers_of
+after_space [] = refl
+after_space (b ∷ bs) = by_test (eqb b space_byte) (λ y. rw y refl) (λ n. rw n (joined (slice_split (λ c. eqb c space_byte) bs)))
+  where
+    joined : (fs : List (List ℕ)) → numbers_of 0 (onto_first b fs) ≡ None
+    joined [] = refl
+    joined (f ∷ fs) = refl
 
-pub other_line : (line : List ℕ) → 2 ≤ length line → eqb (get_or line 1 0) space_byte ≡ false → Bad ≡ asked line
+-- there is none before the space
+pub no_letter : (line : List ℕ) → 2 ≤ length line → get_or line 0 0 ≡ space_byte → asked line ≡ None
 unfolding asked fields
-other_line [] l h = refl
-other_line (b ∷ []) l h = absurd (omega arith)
-other_line (b ∷ c ∷ bs) l h =
-    let s = some-fields bs in
-    by_test (eqb b space_byte) (λ y. rw y refl) (λ n. rw (n, h, s.are) refl)
+no_letter [] l e = refl
+no_letter (x ∷ xs) l e = rw e refl
+
+-- the letter is longer
+pub no_space : (line : List ℕ) → 2 ≤ length line → (get_or line 1 0 ≡ space_byte → ⊥) → asked line ≡ None
+unfolding asked fields
+no_space [] l s = refl
+no_space (x ∷ []) l s = absurd (omega (arith, l))
+no_space (x ∷ y ∷ xs) l s = by_test (eqb x space_byte) (λ e. rw e refl) (λ n. rw (n, ne_eqb y space_byte s) (longer (slice_split (λ c. eqb c space_byte) xs)))
+  where
+    longer : (fs : List (List ℕ)) → command_of (onto_first x (onto_first y fs)) ≡ None
+    longer [] = refl
+    longer (f ∷ fs) = refl
+
+-- the letter is not one that has numbers
+pub not_numbered : (line : List ℕ) → 2 ≤ length line → (get_or line 0 0 ≡ 80 → ⊥) → (get_or line 0 0 ≡ 68 → ⊥) → (get_or line 0 0 ≡ 82 → ⊥)
+    → asked line ≡ None
+not_numbered line l p d r =
+    by_place (get_or line 1 0) space_byte
+    (λ s. by_place (get_or line 0 0) space_byte (λ e. no_letter line l e)
+    (λ n. numbered line _ refl s (ne_eqb _ space_byte n)
+    ∙ simp (after_space (drop 2 line), ne_eqb (get_or line 0 0) 80 p, ne_eqb (get_or line 0 0) 68 d, ne_eqb (get_or line 0 0) 82 r, same)))
+    (λ n. no_space line l n)

@@ -1,54 +1,45 @@
--- What a line asks: a letter and its numbers, fields parted by one space. Anything else is a bad line. RULES.md, The program
--- steps. Assumes nothing.
-use Rattle.std.specs.Prelude.{Bool, false, cond, ◌&&◌, List, [], ◌∷◌, ℕ, ◌+◌, eqb, ℤ, length, get_or}
-use Rattle.steps_commands.specs.declared.Number.{Number}
-use Rattle.steps_commands.specs.declared.Number.TheVariants as number
+-- What a line asks: a letter and its numbers, fields parted by one space. Anything else is a bad line, which asks nothing.
+-- RULES.md, The program steps. Assumes nothing.
+use Rattle.std.specs.Prelude.{Bool, false, cond, List, [], ◌∷◌, ℕ, zero, suc, eqb, ℤ, pos, get_or, Option, Some, None, option_map, option_and_then}
+use Rattle.std.specs.List.{slice_split}
 use Rattle.steps_commands.specs.declared.Command.{Command}
-use Rattle.steps_commands.specs.declared.Command.TheVariants.{Begin, Commit, Put, Delete, Read, Bad}
+use Rattle.steps_commands.specs.declared.Command.TheVariants.{Begin, Commit, Put, Delete, Read}
 use Rattle.steps_commands.specs.Numerals.{number_of}
 
 -- the byte ' '
 abbrev pub space_byte : ℕ
 space_byte = 32
 
--- ---- the fields of a line: what stands before, between and after its spaces
-abbrev pub joined : ℕ → List (List ℕ) → List (List ℕ)
-joined b [] = (b ∷ []) ∷ []
-joined b (f ∷ fs) = (b ∷ f) ∷ fs
-
+-- the fields of a line: what stands before, between and after its spaces
 unfoldable pub fields : List ℕ → List (List ℕ)
-fields [] = [] ∷ []
-fields (b ∷ bs) = cond (eqb b space_byte) ([] ∷ fields bs) (joined b (fields bs))
+fields line = slice_split (λ b. eqb b space_byte) line
 
--- the first field is one letter, and so many numbers follow
+-- the numbers of so many fields and no more, where each is a number
+unfoldable pub numbers_of : ℕ → List (List ℕ) → Option (List ℤ)
+numbers_of zero [] = Some []
+numbers_of zero (f ∷ fs) = None
+numbers_of (suc count) [] = None
+numbers_of (suc count) (f ∷ fs) = option_and_then (λ z. option_map (λ zs. z ∷ zs) (numbers_of count fs)) (number_of f)
+
+-- the first field is one letter
 abbrev pub is_letter : ℕ → List ℕ → Bool
 is_letter letter [] = false
 is_letter letter (b ∷ []) = eqb b letter
 is_letter letter (b ∷ c ∷ bs) = false
 
-abbrev pub asks : ℕ → ℕ → List (List ℕ) → Bool
-asks letter count fs = is_letter letter (get_or fs 0 []) && eqb (length fs) (count + 1)
+abbrev pub number : List ℤ → ℕ → ℤ
+number numbers k = get_or numbers k (pos 0)
 
--- the number of a field, where it is one
-abbrev pub with_number : Number → (ℤ → Command) → Command
-with_number (number.Is z) f = f z
-with_number number.Bad f = Bad
+-- the letter, and so many numbers after it: B begin; C commit; P, two keys and two totals; D, two keys; R, session and two keys
+abbrev pub command_of : List (List ℕ) → Option Command
+command_of [] = None
+command_of (f ∷ fs) =
+    cond (is_letter 66 f) (option_map (λ n. Begin) (numbers_of 0 fs))
+    (cond (is_letter 67 f) (option_map (λ n. Commit) (numbers_of 0 fs))
+    (cond (is_letter 80 f) (option_map (λ n. Put (number n 0) (number n 1) (number n 2) (number n 3)) (numbers_of 4 fs))
+    (cond (is_letter 68 f) (option_map (λ n. Delete (number n 0) (number n 1)) (numbers_of 2 fs))
+    (cond (is_letter 82 f) (option_map (λ n. Read (number n 0) (number n 1) (number n 2)) (numbers_of 3 fs))
+    None))))
 
-abbrev pub field : List (List ℕ) → ℕ → Number
-field fs k = number_of (get_or fs k [])
-
-abbrev pub with_two : List (List ℕ) → ℕ → (ℤ → ℤ → Command) → Command
-with_two fs k f = with_number (field fs k) (λ a. with_number (field fs (k + 1)) (λ b. f a b))
-
--- B begin; C commit; P, two keys and two totals; D, two keys; R, session and two keys
-abbrev pub command_of : List (List ℕ) → Command
-command_of fs =
-    cond (asks 66 0 fs) Begin
-    (cond (asks 67 0 fs) Commit
-    (cond (asks 80 4 fs) (with_two fs 1 (λ one two. with_two fs 3 (λ a b. Put one two a b)))
-    (cond (asks 68 2 fs) (with_two fs 1 (λ one two. Delete one two))
-    (cond (asks 82 3 fs) (with_number (field fs 1) (λ s. with_two fs 2 (λ one two. Read s one two)))
-    Bad))))
-
-unfoldable pub asked : List ℕ → Command
+unfoldable pub asked : List ℕ → Option Command
 asked line = command_of (fields line)

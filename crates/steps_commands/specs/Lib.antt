@@ -1,13 +1,7 @@
 pub mod Numerals
-pub mod Commands
-pub mod DigitsRead
-pub mod ReadDigits
 pub mod NumeralLaws
-pub mod Fields
-pub mod FieldLaws
-pub mod Counts
-pub mod CountLaws
-pub mod CommandParts
+pub mod Commands
+pub mod NumberLaws
 pub mod CommandLaws
 pub mod Longest
 pub mod LongLineLaws

@@ -1,74 +1,71 @@
 -- A line past the longest command asks nothing, so its first 86 bytes tell what it asks. A field past 20 bytes is no number, so
--- a number with its space is at most 21 bytes, and each count of numbers is that much longer than the count below it.
--- Assumes nothing.
-use Rattle.std.specs.Prelude.{◌≡◌, refl, Bool, true, false, cond, List, [], ◌∷◌, ℕ, ◌+◌, ◌≤◌, ◌<◌, eqb, leb, ℤ, length, get_or, take, drop}
-use Rattle.std.proofs.Common.{sym, ◌∙◌, arith, length-drop, length-take-le, take_all, leb-true, leb-false}
-use Rattle.laws.specs.TestLaws.{by_test}
-use Rattle.steps_commands.specs.declared.Number.TheVariants as number
-use Rattle.steps_commands.specs.declared.First.{First}
-use Rattle.steps_commands.specs.declared.First.TheVariants as first
-use Rattle.steps_commands.specs.declared.Two.TheVariants as two
-use Rattle.steps_commands.specs.declared.Three.TheVariants as three
-use Rattle.steps_commands.specs.declared.Four.TheVariants as four
-use Rattle.steps_commands.specs.declared.Command.TheVariants.{Bad}
-use Rattle.steps_commands.specs.Numerals.{number_of}
-use Rattle.steps_commands.specs.ReadDigits.{many_digits}
-use Rattle.steps_commands.specs.NumeralLaws.{no_number}
-use Rattle.steps_commands.specs.Commands.{space_byte, fields, asked}
-use Rattle.steps_commands.specs.FieldLaws.{first_is, one_number}
-use Rattle.steps_commands.specs.Fields.{by_first, first_end, first_of}
-use Rattle.steps_commands.specs.CountLaws.{two_first, three_first, four_first}
-use Rattle.steps_commands.specs.Counts.{then_one, then_two, then_three, two_of, three_of, four_of}
-use Rattle.steps_commands.specs.CommandLaws.{numbered_line, other_line}
-use Rattle.steps_commands.specs.CommandParts.{numbered_of}
-use Rattle.steps_commands.specs.Longest.{longest_command, longest_number, longest_two, longest_three, longest_four}
+-- a number with its space is at most 21 bytes. Assumes nothing.
+use Rattle.std.specs.Prelude.{◌≡◌, refl, List, [], ◌∷◌, ℕ, zero, suc, ◌+◌, ◌*◌, ◌≤◌, ◌<◌, eqb, leb, ℤ, length, get_or, take, drop, Option, Some, None, option_map, option_and_then}
+use Rattle.std.proofs.Common.{sym, ◌∙◌, arith, length-drop, length-take-le, take_all, leb-true, leb-false, ne_eqb}
+use Rattle.std.proofs.lemmas.Bool.{lt-leb}
+use Rattle.std.proofs.lemmas.Int.{to_z-of_z}
+use Rattle.std.proofs.Math.Bool.{and-false}
+use Rattle.std.specs.List.{slice_split, onto_first}
+use Rattle.laws.specs.TestLaws.{by_test, by_place}
+use Rattle.steps_commands.specs.Numerals.{most_digits, digits_of, number_of}
+use Rattle.steps_commands.specs.Commands.{space_byte, fields, numbers_of, command_of, asked}
+use Rattle.steps_commands.specs.CommandLaws.{same, numbered, empty_line, begin_line, commit_line, other_letter, no_letter, no_space, put_line, delete_line, read_line, not_numbered}
+use Rattle.steps_commands.specs.Longest.{longest_command, longest_number}
 
-pub long_number : (bs : List ℕ) → longest_number < length bs → number_of bs ≡ number.Bad
-long_number [] l = absurd (omega arith)
-long_number (b ∷ bs) l = no_number b bs (λ y. many_digits bs (omega arith)) (λ n. many_digits (b ∷ bs) (omega arith))
+-- ---- a number
+many_digits : (bs : List ℕ) → most_digits < length bs → digits_of bs ≡ None
+unfolding digits_of
+many_digits bs l = simp (lt-leb (length bs) most_digits l, and-false)
 
--- a first number and its space are 21 bytes at most, so what follows them is long too
-shorter : (line : List ℕ) {z : ℤ} {after : ℕ} → first_of line ≡ first.Number z after → length line ≤ longest_number + 1 + length (drop after line)
-shorter line {z} {after} e =
-    let f = first_is line e in
-    by_test (leb (first_end line) longest_number)
-    (λ y. omega (arith, length-drop after line, leb-true (first_end line) longest_number y))
-    (λ n. let w = long_number (take (first_end line) line) (rw (length-take-le (first_end line) line (omega arith)) (leb-false (first_end line) longest_number n)) in
-    let u : ◌≡◌ {A = ℕ} 0 1 = cc in absurd (omega arith))
+pub long_number : (bs : List ℕ) → longest_number < length bs → number_of bs ≡ None
+unfolding number_of
+long_number [] l = absurd (omega (arith, l))
+long_number (b ∷ bs) l = simp (many_digits bs (omega (arith, l)), many_digits (b ∷ bs) (omega (arith, l)), same)
 
--- and where no others that long are numbers, all together are none
-module _ {A : Type 0} (bad : A) (rest : ℤ → List (List ℕ) → A) (most : ℕ) (long : (z : ℤ) (line : List ℕ) → most < length line → rest z (fields line) ≡ bad) where
-  long_first : (line : List ℕ) → longest_number + 1 + most < length line → by_first bad rest line (first_of line) ≡ bad
-  long_first line l = go (first_of line) refl
-    where
-      go : (f : First) → first_of line ≡ f → by_first bad rest line f ≡ bad
-      go (first.Number z after) e = long z (drop after line) (omega (arith, shorter line e))
-      go first.Bad e = refl
+-- ---- so many numbers, each with the space that follows it or the end
+abbrev spaced : List (List ℕ) → ℕ
+spaced [] = 0
+spaced (f ∷ fs) = length f + 1 + spaced fs
 
-long_two : (line : List ℕ) → longest_two < length line → two_of (fields line) ≡ two.Bad
-long_two line l =
-    two_first line ∙ long_first two.Bad then_one longest_number (λ z after m. rw (← one_number after, long_number after m) refl) line l
+fields_spaced : (line : List ℕ) → spaced (fields line) ≡ length line + 1
+unfolding fields
+fields_spaced [] = refl
+fields_spaced (b ∷ bs) =
+    let more = fields_spaced bs in
+    by_test (eqb b space_byte) (λ y. rw y (omega arith)) (λ n. rw n (joined (slice_split (λ c. eqb c space_byte) bs) more))
+  where
+    joined : (fs : List (List ℕ)) → spaced fs ≡ length bs + 1 → spaced (onto_first b fs) ≡ suc (length bs) + 1
+    joined [] e = absurd (omega (arith, e))
+    joined (f ∷ fs) e = omega (arith, e)
 
-long_three : (line : List ℕ) → longest_three < length line → three_of (fields line) ≡ three.Bad
-long_three line l = three_first line ∙ long_first three.Bad then_two longest_two (λ z after m. rw (long_two after m) refl) line l
+long_numbers : (count : ℕ) (fs : List (List ℕ)) → count * (longest_number + 1) < spaced fs → numbers_of count fs ≡ None
+unfolding numbers_of
+long_numbers zero [] l = absurd (omega (arith, l))
+long_numbers zero (f ∷ fs) l = refl
+long_numbers (suc count) [] l = refl
+long_numbers (suc count) (f ∷ fs) l =
+    by_test (leb (length f) longest_number)
+    (λ y. rw (long_numbers count fs (omega (arith, l, leb-true (length f) longest_number y))) (none (number_of f)))
+    (λ n. rw (long_number f (leb-false (length f) longest_number n)) refl)
+  where
+    none : (x : Option ℤ) → option_and_then (λ z. option_map (λ zs. z ∷ zs) None) x ≡ None
+    none None = refl
+    none (Some z) = refl
 
-long_four : (line : List ℕ) → longest_four < length line → four_of (fields line) ≡ four.Bad
-long_four line l = four_first line ∙ long_first four.Bad then_three longest_three (λ z after m. rw (long_three after m) refl) line l
+too_long : (count : ℕ) (line : List ℕ) → count * (longest_number + 1) ≤ length line → numbers_of count (fields line) ≡ None
+too_long count line l = long_numbers count (fields line) (omega (arith, fields_spaced line))
 
-same : {A : Type 0} (t : Bool) (x : A) → cond t x x ≡ x
-same true x = refl
-same false x = refl
-
-long_numbers : (letter : ℕ) (line : List ℕ) → longest_four < length line → numbered_of letter (fields line) ≡ Bad
-unfolding numbered_of
-long_numbers letter line l =
-    simp (long_two line (omega arith), long_three line (omega arith), long_four line l, same)
-
-pub long_line : (line : List ℕ) → longest_command < length line → asked line ≡ Bad
+-- ---- a line
+pub long_line : (line : List ℕ) → longest_command < length line → asked line ≡ None
 long_line line l =
-    by_test (eqb (get_or line 1 0) space_byte)
-    (λ y. sym (numbered_line line y) ∙ long_numbers (get_or line 0 0) (drop 2 line) (omega (arith, length-drop 2 line)))
-    (λ n. sym (other_line line (omega arith) n))
+    by_place (get_or line 1 0) space_byte
+    (λ s. by_place (get_or line 0 0) space_byte
+    (λ e. no_letter line (omega arith) e)
+    (λ n. numbered line (get_or line 0 0) refl s (ne_eqb _ space_byte n) ∙ nothing (get_or line 0 0) (drop 2 line) (omega (arith, length-drop 2 line))))
+    (λ n. no_space line (omega arith) n)
+  where
+    nothing : (letter : ℕ) (rest : List ℕ) → 84 ≤ length rest → command_of ((letter ∷ []) ∷ fields rest) ≡ None
+    nothing letter rest l = simp (too_long 0 rest (omega arith), too_long 2 rest (omega arith), too_long 3 rest (omega arith), too_long 4 rest (omega arith), same)
 
 -- a program may keep so many bytes of a line and one more, and no others
 pub kept : (line : List ℕ) → asked (take (longest_command + 1) line) ≡ asked line
@@ -77,3 +74,6 @@ kept line =
     (λ y. rw (take_all (longest_command + 1) line (leb-true _ _ y)) refl)
     (λ n. let l = leb-false (length line) (longest_command + 1) n in
     long_line (take (longest_command + 1) line) (omega (arith, length-take-le (longest_command + 1) line (omega arith))) ∙ sym (long_line line (omega arith)))
+
+-- a line as the code tells it, by its length, its letter and the space after that
+pub ruleset told_by = (to_z-of_z, long_line, empty_line, begin_line, commit_line, other_letter, no_space, put_line, delete_line, read_line, not_numbered)

@@ -29,7 +29,7 @@ pub const OLD1: usize = 6;
 
 pub const OLD2: usize = 7;
 
-#[derive(Clone, Copy)]
+#[derive(Clone, Copy, Debug, PartialEq, Eq)]
 pub struct Slot {
     pub run: i64,
     pub operation: i64,

@@ -1,5 +1,6 @@
 pub mod Operations
 pub mod OperationLaws
+pub mod DecisionTables
 pub mod Totals
 pub mod TotalLaws
 pub mod Formed

@@ -3,28 +3,64 @@
 // passes test 2.
 #![tactic(auto)]
 
-ghost use Rattle.std.specs.Prelude.{◌≡◌, false, [], ◌∷◌, ◌<◌};
-ghost use Rattle.laws.specs.Cells.{columns, cell_at};
+ghost use Rattle.std.specs.Prelude.{◌≡◌, false, not, ◌||◌, ◌&&◌, [], ◌∷◌, pos};
+ghost use Rattle.laws.specs.Order.{eq_z, from_to};
 ghost use Rattle.laws.specs.Tests.{all};
-ghost use Rattle.versions.specs.Record.{bad_record};
-ghost use Rattle.table_forms.specs.Operations.{column, live, live_word};
+ghost use Rattle.versions.specs.Record.{bad_record, last_run};
+ghost use Rattle.table_forms.specs.DecisionTables.{cell_at};
+ghost use Rattle.table_forms.specs.Operations.{insert_operation, delete_operation, column, live, live_word};
 ghost use Rattle.table_forms.specs.Totals.{lawful, reported, unlawful};
 ghost use Rattle.table_forms.specs.Formed.{all_zeros, used_well, well_formed, broken};
 
 use table::Slot;
 use versions::VersionRecord;
 
-// The operation word.
-pub const EMPTY: i64 = 0;
+// What a run did to a slot, by the word that says so in the slot.
+#[derive(Clone, Copy, Debug, PartialEq, Eq)]
+pub enum Operation {
+    Empty = 0,
+    Insert = 1,
+    Update = 2,
+    Delete = 3,
+}
 
-pub const INSERT: i64 = 1;
+pub const EMPTY: i64 = Operation::Empty as i64;
 
-pub const UPDATE: i64 = 2;
+pub const INSERT: i64 = Operation::Insert as i64;
 
-pub const DELETE: i64 = 3;
+pub const UPDATE: i64 = Operation::Update as i64;
 
-// The columns of a decision table: empty, insert, update, delete.
-const COLUMNS: usize = 4;
+pub const DELETE: i64 = Operation::Delete as i64;
+
+// A row of a decision table: a cell for each operation.
+#[derive(Clone, Copy)]
+pub struct Columns<C> {
+    pub empty: C,
+    pub insert: C,
+    pub update: C,
+    pub delete: C,
+}
+
+// A decision table: the row where its test holds, and the row where it fails.
+#[derive(Clone, Copy)]
+pub struct DecisionTable<C> {
+    pub holds: Columns<C>,
+    pub fails: Columns<C>,
+}
+
+impl<C: Copy> DecisionTable<C> {
+    pub fn cell(self, holds: bool, operation: Operation) -> C
+        ensures { result ≡ cell_at self holds operation }
+    {
+        let row = if holds { self.holds } else { self.fails };
+        match operation {
+            Operation::Empty => row.empty,
+            Operation::Insert => row.insert,
+            Operation::Update => row.update,
+            Operation::Delete => row.delete,
+        }
+    }
+}
 
 // The range of a total that is reported.
 pub const LOWEST_TOTAL: i64 = -1_000_000_000_000_000;
@@ -35,12 +71,14 @@ pub const HIGHEST_TOTAL: i64 = 1_000_000_000_000_000;
 pub const NOT_REPORTED: i64 = LOWEST_TOTAL - 1;
 
 // A total that may be given and stored.
+#[tactic(auto, using(laws::specs::Bits::plain, crate::specs::TotalLaws::lawful_range))]
 pub fn is_lawful(total: i64) -> bool
     ensures { result ≡ lawful total }
 {
     (NOT_REPORTED <= total) & (total <= HIGHEST_TOTAL)
 }
 
+#[tactic(auto, using(laws::specs::Bits::eq_bits), unfolding(crate::specs::Totals::reported))]
 pub fn is_reported(total: i64) -> bool
     ensures { result ≡ reported total }
 {
@@ -48,94 +86,98 @@ pub fn is_reported(total: i64) -> bool
 }
 
 // Refusal 13.
+#[tactic(auto, using(laws::specs::Bits::plain), unfolding(crate::specs::Totals::unlawful))]
 pub fn is_unlawful(total1: i64, total2: i64) -> bool
     ensures { result ≡ unlawful total1 total2 }
 {
     !(is_lawful(total1) & is_lawful(total2))
 }
 
-// The slot's column in the decision tables.
-pub fn column_of(x: Slot) -> usize
+// A slot's operation, which is its column in the decision tables. A word that stands for none counts as empty.
+#[tactic(auto, using(laws::specs::Bits::is, laws::specs::Bits::isnt), unfolding(crate::specs::Operations::column))]
+pub fn column_of(x: Slot) -> Operation
     ensures { result ≡ column x }
 {
-    let operation = x.operation;
-    if operation == INSERT {
-        return 1;
+    match x.operation {
+        1 => Operation::Insert,
+        2 => Operation::Update,
+        3 => Operation::Delete,
+        _ => Operation::Empty,
     }
-    if operation == UPDATE {
-        return 2;
-    }
-    if operation == DELETE {
-        return 3;
-    }
-    0
-}
-
-// The cell of a decision table: its first row is that where its test holds, and a row has a column for each operation.
-pub fn cell_of(cells: [u8; 8], holds: bool, column: usize) -> u8
-    requires { column < columns }
-    ensures { result ≡ cell_at cells holds column }
-{
-    let row = !holds as usize;
-    cells[row * COLUMNS + column]
 }
 
 // Whether an operation word is that of a live slot.
+#[tactic(auto, using(laws::specs::Bits::eq_bits))]
 pub fn lives(operation: i64) -> bool
     ensures { result ≡ live_word operation }
 {
-    (operation == INSERT) | (operation == UPDATE)
+    (operation == Operation::Insert as i64) | (operation == Operation::Update as i64)
 }
 
+#[tactic(auto, using(laws::specs::Bits::plain), unfolding(crate::specs::Operations::live))]
 pub fn is_live(x: Slot) -> bool
     ensures { result ≡ live x }
 {
     lives(x.operation)
 }
 
+#[tactic(auto, using(laws::specs::Bits::eq_bits), unfolding(crate::specs::Formed::all_zeros, laws::specs::Tests::all))]
 pub fn all_zeros(x: Slot) -> bool
     ensures { result ≡ all_zeros x }
 {
-    (x.run == 0)
-        & (x.operation == 0)
-        & (x.key1 == 0)
-        & (x.key2 == 0)
-        & (x.current1 == 0)
-        & (x.current2 == 0)
-        & (x.old1 == 0)
-        & (x.old2 == 0)
+    x == table::empty_slot()
 }
 
 // The four totals of a slot.
+#[tactic(auto, using(laws::specs::Bits::plain), unfolding(laws::specs::Tests::all))]
 pub fn are_lawful(current1: i64, current2: i64, old1: i64, old2: i64) -> bool
     ensures { result ≡ all (lawful current1 ∷ lawful current2 ∷ lawful old1 ∷ lawful old2 ∷ []) }
 {
     is_lawful(current1) & is_lawful(current2) & is_lawful(old1) & is_lawful(old2)
 }
 
+// Whether an operation word is that of a used slot.
+#[tactic(auto, using(laws::specs::Bits::plain))]
+fn is_used(operation: i64) -> bool
+    ensures { result ≡ from_to insert_operation delete_operation operation }
+{
+    (Operation::Insert as i64 <= operation) & (operation <= Operation::Delete as i64)
+}
+
+// Whether a run number is that of a run that has begun.
+#[tactic(auto, using(laws::specs::Bits::plain))]
+fn has_begun(run: i64, versions: VersionRecord) -> bool
+    requires { bad_record versions ≡ false }
+    ensures { result ≡ from_to (pos 1) (last_run versions) run }
+{
+    (1 <= run) & (run <= versions::last_run(versions))
+}
+
+// Whether an operation's old totals are lawful beside it: those of an insert are 0.
+#[tactic(auto, using(laws::specs::Bits::eq_bits))]
+fn may_have_old(operation: i64, old1: i64, old2: i64) -> bool
+    ensures { result ≡ (not (eq_z operation insert_operation) || (eq_z old1 (pos 0) && eq_z old2 (pos 0))) }
+{
+    (operation != Operation::Insert as i64) | ((old1 == 0) & (old2 == 0))
+}
+
+#[tactic(auto, using(laws::specs::Bits::plain), unfolding(laws::specs::Tests::all, crate::specs::Formed::used_well, crate::specs::Formed::totals_lawful))]
 fn used_well(x: Slot, versions: VersionRecord) -> bool
     requires { bad_record versions ≡ false }
     ensures { result ≡ used_well x versions }
 {
-    let run = x.run;
-    let operation = x.operation;
-    let current1 = x.current1;
-    let current2 = x.current2;
-    let old1 = x.old1;
-    let old2 = x.old2;
-    let last = versions::last_run(versions);
-    ((INSERT <= operation) & (operation <= DELETE))
-        & ((1 <= run) & (run <= last))
-        & are_lawful(current1, current2, old1, old2)
-        & ((operation != INSERT) | ((old1 == 0) & (old2 == 0)))
+    is_used(x.operation)
+        & has_begun(x.run, versions)
+        & are_lawful(x.current1, x.current2, x.old1, x.old2)
+        & may_have_old(x.operation, x.old1, x.old2)
 }
 
+#[tactic(auto, using(laws::specs::Bits::plain, crate::specs::FormedLaws::formed_used, crate::specs::FormedLaws::formed_unused))]
 pub fn well_formed(x: Slot, versions: VersionRecord) -> bool
     requires { bad_record versions ≡ false }
     ensures { result ≡ well_formed x versions }
 {
-    let operation = x.operation;
-    if (INSERT <= operation) & (operation <= DELETE) {
+    if is_used(x.operation) {
         return used_well(x, versions);
     }
     all_zeros(x)

@@ -1,25 +1,14 @@
--- `steps_commands::read_digits`: the bytes before i are digits and have made `number`, below 10^i (`Passed`), so that one more of
--- 19 fits. Assumes nothing.
-use Rattle.std.proofs.Common.{sym, ◌∙◌, arith}
-use Rattle.steps_commands.specs.ReadDigits.{not_passed, all_passed, fits, no_digits, many_digits, other_digits, digits_make}
+-- `steps_commands::read_digits`: a digit more of 19 makes no more than 64 bits hold (`room`). Assumes nothing.
+use Rattle.std.proofs.Common.{ℕ, suc, ◌+◌, ◌*◌, ◌^◌, ◌<◌, ◌≤◌, arith, pow-suc}
+use Rattle.std.proofs.Math.Nat.{pow-le-pow_right}
+use Rattle.steps_commands.specs.Numerals.{most_digits}
 use Rattle.steps_commands.proofs.read_digits.Goals as goal
 
-pub returns-then-field-eq0 : goal.returns-then-field-eq0
-returns-then-field-eq0 c = no_digits _ (omega arith)
-
-pub returns-then-field-gt-MOST_DIGITS : goal.returns-then-field-gt-MOST_DIGITS
-returns-then-field-gt-MOST_DIGITS c = many_digits _ (omega arith)
-
-pub returns-then-not-is_digit : goal.returns-then-not-is_digit
-returns-then-not-is_digit c = other_digits _ (not_passed c.loop-i.invariant.1 (omega arith) (sym c.is_digit.ensures ∙ c.if-not-is_digit.true))
+room : (n i : ℕ) → n < 10 ^ i → i < most_digits → n * 10 + 10 ≤ 10 ^ most_digits
+room n i small few = omega (arith, pow-suc 10 i, pow-le-pow_right {n = 10} (omega arith) {i = suc i} {j = most_digits} (omega arith))
 
 pub overflow_mul-number : goal.overflow_mul-number
-overflow_mul-number c = omega (arith, fits c.loop-i.invariant.1 (omega arith) (omega arith))
+overflow_mul-number c = omega (arith, room _ _ c.loop-byte.invariant.small (omega arith))
 
 pub overflow_add-number : goal.overflow_add-number
-overflow_add-number c = omega (arith, fits c.loop-i.invariant.1 (omega arith) (omega arith), c.digit_of.ensures)
-
-pub returns : goal.returns
-returns c =
-    let p = all_passed c.loop-i.invariant.1 (omega arith) in
-    digits_make _ (omega arith) (omega arith) p.0 p.1
+overflow_add-number c = omega (arith, room _ _ c.loop-byte.invariant.small (omega arith))
