@@ -1,13 +1,7 @@
 -- What a kind of table supplies for demand 3: its view, what keeps all well with what is lent, that each call is a step of the
 -- view, and what its calls answer, reads and changes in terms of the view. From that every promise follows (`Promises`).
 -- Assumes nothing.
-use mathlib.Core.Path.{◌≡◌}
-use mathlib.Core.Bool.{Bool, true, false}
-use mathlib.Core.Logic.{◌⊎◌}
-use mathlib.Core.List.{List, [], ◌∷◌, map}
-use Prim.Native.Nat.{ℕ, suc, ◌≤◌, ◌<◌}
-use lib.IntN.{ℤ, pos}
-use Rattle.std.specs.Prelude.{Ok, Err, None, is_some}
+use Rattle.std.specs.Prelude.{◌≡◌, Bool, true, false, ◌⊎◌, List, [], ◌∷◌, map, ℕ, suc, ◌≤◌, ◌<◌, ℤ, pos, Ok, Err, None, is_some}
 use Rattle.calls.specs.Terms.{unlawful, tally, sums}
 use Rattle.calls.specs.Refusals as refusal
 use Rattle.calls.specs.Calls as answer

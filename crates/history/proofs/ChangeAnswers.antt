@@ -1,16 +1,8 @@
 -- What changes of the table of two versions answer where all is well: the shape, the record and the key's slot are sound, so that
 -- what is left to test are the run, the totals, the key and the room. A key is live exactly when its slot shows a row at the run's
 -- number; a slot is free exactly when neither current nor the run's number shows a row of it. Assumes nothing.
-use mathlib.Core.Path.{◌≡◌, sym, ap, ◌∙◌}
-use mathlib.Core.Bool.{Bool, true, false, not}
-use mathlib.Core.Logic.{⊎_elim, inl, inr}
-use mathlib.Core.List.{List}
-use Prim.Native.Nat.{ℕ}
-use native.Mathlib.Omega.{arith}
-use lib.Dec.{ltb}
-use lib.IntN.{ℤ}
-use borrow.Author.Tests.{ltb-true, ltb-false}
-use Rattle.std.specs.Prelude.{is_some}
+use Rattle.std.specs.Prelude.{◌≡◌, Bool, true, false, not, List, ℕ, ltb, ℤ, is_some}
+use Rattle.std.proofs.Common.{sym, ap, ◌∙◌, ⊎_elim, inl, inr, arith, ltb-true, ltb-false}
 use Rattle.laws.specs.TestLaws.{by_test, clash}
 use Rattle.laws.specs.FirstLaws.{skip, hit, done}
 use Rattle.versions.specs.declared.VersionRecord.{VersionRecord}

@@ -1,17 +1,15 @@
 -- Databases in another order: a permutation of rows holds the same keys, and where no key stands twice it finds the same rows,
 -- rolls up to the same counts and sums, and loses the same row. Each goes by the permutation; a step on one or two rows goes by
 -- the tests on them alone. And the roll-up of a database is what the library's tally of its rows comes to. Assumes nothing.
-use mathlib.Core.Path.{◌≡◌, refl, sym, ap, ap₂, subst, ◌∙◌}
-use mathlib.Core.Bool.{Bool, true, false, cond, not, ◌&&◌, ◌||◌, or_assoc, or_comm}
-use mathlib.Core.Logic.{∥∥₁_elim}
-use mathlib.Core.List.Permᴰ
-use mathlib.Core.List.{[], ◌∷◌, ◌++◌, map, Perm, Permᴰ}
-use Prim.Native.Nat.{suc}
-use native.Mathlib.Nat.{ℕ_set}
-use lib.IntN.{ℤ, ◌+ℤ◌, +ℤ_comm, +ℤ_assoc, ℤ_set}
-use lib.ListN.{length}
-use Rattle.std.specs.Prelude.{Option, Some, None, is_some, filter}
+use Rattle.std.specs.Prelude.{◌≡◌, refl, Bool, true, false, cond, not, ◌&&◌, ◌||◌, [], ◌∷◌, ◌++◌, map, suc, ℤ, ◌+ℤ◌, length, Option, Some, None, is_some, filter}
+use Rattle.std.proofs.Common.{sym, ap, ap₂, subst, ◌∙◌}
+use Rattle.std.proofs.Math.Bool.{or_assoc, or_comm}
+use Rattle.std.proofs.Math.IntN.{+ℤ_comm, +ℤ_assoc, ℤ_set}
+use Rattle.std.proofs.Math.Logic.{∥∥₁_elim}
+use Rattle.std.proofs.Math.Nat.{ℕ_set}
 use Rattle.std.proofs.lemmas.List.Folds.{list_any-append}
+use mathlib.Core.List.{Perm, Permᴰ}
+use mathlib.Core.List.Permᴰ
 use Rattle.laws.specs.TestLaws.{by_test, clash}
 use Rattle.laws.specs.Permutations.{by_perm, permᴰ-length}
 use Rattle.laws.specs.OrderLaws.{eq_z_true, eq_z_same}

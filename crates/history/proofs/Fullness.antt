@@ -1,19 +1,13 @@
 -- When there is no room: the keys that the databases of the open versions and the running one hold together are those of the slots
 -- that show a row at one of these versions. Where these are the slots that are not free, they number the slots exactly when
 -- none is free. By counting, slot by slot. And for two versions the open one in a run is current. Assumes nothing.
-use mathlib.Core.Path.{◌≡◌, refl, sym, ap, ap₂, ◌∙◌}
-use mathlib.Core.Bool.{Bool, true, false, cond, not, ◌&&◌, ◌||◌, or-true}
-use mathlib.Core.Logic.{◌⊎◌, ⊎_elim}
-use mathlib.Core.List.Permᴰ
-use mathlib.Core.List.{List, [], ◌∷◌, ◌++◌, map, Permᴰ}
-use Prim.Native.Nat.{ℕ, zero, suc, ◌+◌, ◌≤◌, ◌<◌}
-use native.Mathlib.Omega.{arith}
-use lib.Dec.{eqb, leb}
-use lib.IntN.{ℤ}
-use lib.ListN.{length, length-append}
-use borrow.Author.Tests.{eqb-true, eqb-false, leb-true, le-leb, lt-leb}
-use Rattle.std.specs.Prelude.{Option, Some, None, is_some, option_to_list}
+use Rattle.std.specs.Prelude.{◌≡◌, refl, Bool, true, false, cond, not, ◌&&◌, ◌||◌, ◌⊎◌, List, [], ◌∷◌, ◌++◌, map, ℕ, zero, suc, ◌+◌, ◌≤◌, ◌<◌, eqb, leb, ℤ, length, Option, Some, None, is_some, option_to_list}
 use Rattle.std.specs.Option.{option_or}
+use Rattle.std.proofs.Common.{sym, ap, ap₂, ◌∙◌, ⊎_elim, arith, length-append, eqb-true, leb-true, le-leb}
+use Rattle.std.proofs.Math.Bool.{or-true}
+use Rattle.std.proofs.lemmas.Bool.{eqb-false, lt-leb}
+use mathlib.Core.List.{Permᴰ}
+use mathlib.Core.List.Permᴰ
 use Rattle.laws.specs.TestLaws.{by_test, clash, not_yes}
 use Rattle.laws.specs.Permutations.{permᴰ-length}
 use Rattle.calls.specs.Rows.{Row}

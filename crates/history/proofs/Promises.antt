@@ -1,13 +1,8 @@
 -- From what a kind of table supplies to every promise of demand 3: `kept`, wherever all is well; `from`, after every history from
 -- such a start; `demanded`, after every history from a fresh one. A read answers what the view shows, which is the database's; a
 -- session's answers are readings of the view, whose rows stay while its version does. Assumes nothing.
-use mathlib.Core.Path.{◌≡◌, sym, ap, subst, ◌∙◌}
-use mathlib.Core.Bool.{true, not}
-use mathlib.Core.List.{List, [], ◌∷◌}
-use Prim.Native.Nat.{ℕ, suc, ◌<◌}
-use native.Mathlib.Omega.{arith}
-use lib.IntN.{ℤ, pos}
-use Rattle.std.specs.Prelude.{Ok, is_some}
+use Rattle.std.specs.Prelude.{◌≡◌, true, not, List, [], ◌∷◌, ℕ, suc, ◌<◌, ℤ, pos, Ok, is_some}
+use Rattle.std.proofs.Common.{sym, ap, subst, ◌∙◌, arith}
 use Rattle.laws.specs.TestLaws.{by_order, clash}
 use Rattle.calls.specs.Calls as answer
 use Rattle.history.specs.Databases.{holds, NoRepeat, made_by, rolled_up}

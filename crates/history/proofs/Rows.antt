@@ -1,15 +1,10 @@
 -- The rows of slots, by what each slot shows: in another order of the slots they are a permutation, and one slot's may be put
 -- first, the others' behind it. By induction on the slots. Assumes nothing.
-use mathlib.Core.Path.{◌≡◌, refl, ap₂, ◌∙◌}
-use mathlib.Core.Bool.{true, false, cond}
+use Rattle.std.specs.Prelude.{◌≡◌, refl, true, false, cond, List, [], ◌∷◌, ◌++◌, ℕ, zero, suc, ◌<◌, eqb, ℤ, Option, None, option_to_list}
+use Rattle.std.proofs.Common.{ap₂, ◌∙◌, append_assoc, arith, eqb-true, ne_eqb}
+use Rattle.std.proofs.lemmas.Bool.{eqb-false}
+use mathlib.Core.List.{Permᴰ}
 use mathlib.Core.List.Permᴰ
-use mathlib.Core.List.{List, [], ◌∷◌, ◌++◌, append_assoc, Permᴰ}
-use Prim.Native.Nat.{ℕ, zero, suc, ◌<◌}
-use native.Mathlib.Omega.{arith}
-use lib.Dec.{eqb}
-use lib.IntN.{ℤ}
-use borrow.Author.Tests.{eqb-true, eqb-false, ne_eqb}
-use Rattle.std.specs.Prelude.{Option, None, option_to_list}
 use Rattle.laws.specs.TestLaws.{by_test}
 use Rattle.laws.specs.Permutations.{by_perm}
 use Rattle.calls.specs.Rows.{Row}

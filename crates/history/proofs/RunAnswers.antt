@@ -1,11 +1,7 @@
 -- What open, begin, commit and roll back answer where all is well: the record is sound and says what was followed, so that only the run and
 -- the versions left are tested. Assumes nothing.
-use mathlib.Core.Path.{◌≡◌, sym, ap, ◌∙◌}
-use mathlib.Core.Bool.{true, false, not}
-use Prim.Native.Nat.{ℕ, ◌≤◌}
-use native.Mathlib.Omega.{arith}
-use borrow.Author.Tests.{leb-true, eq-eqb, ne_eqb}
-use Rattle.std.specs.Prelude.{Ok}
+use Rattle.std.specs.Prelude.{◌≡◌, true, false, not, ℕ, ◌≤◌, Ok}
+use Rattle.std.proofs.Common.{sym, ap, ◌∙◌, arith, leb-true, eq-eqb, ne_eqb}
 use Rattle.laws.specs.FirstLaws.{skip, hit, done}
 use Rattle.laws.specs.Order.{eq_z}
 use Rattle.versions.specs.Record.{largest_version}

@@ -1,15 +1,11 @@
 -- One slot written, by a change of a key in a run, is a step: each open version sees there what it saw, and the rows of the
 -- others are the running database without the key, since no other slot has it; so with what the slot now shows put first the
 -- rows are what the change makes of that database. A call of several changes is these one after another. Assumes nothing.
-use mathlib.Core.Path.{◌≡◌, refl, sym, ◌∙◌}
-use mathlib.Core.Bool.{true, false}
+use Rattle.std.specs.Prelude.{◌≡◌, refl, true, false, ◌++◌, ℕ, suc, ◌<◌, eqb, ℤ, Option, Some, None, option_to_list}
+use Rattle.std.proofs.Common.{sym, ◌∙◌}
+use Rattle.std.proofs.lemmas.Bool.{eqb-false}
+use mathlib.Core.List.{Permᴰ}
 use mathlib.Core.List.Permᴰ
-use mathlib.Core.List.{◌++◌, Permᴰ}
-use Prim.Native.Nat.{ℕ, suc, ◌<◌}
-use lib.Dec.{eqb}
-use lib.IntN.{ℤ}
-use borrow.Author.Tests.{eqb-false}
-use Rattle.std.specs.Prelude.{Option, Some, None, option_to_list}
 use Rattle.laws.specs.TestLaws.{by_test, by_place, clash}
 use Rattle.calls.specs.Rows.{Row}
 use Rattle.changes.specs.Effects.{Own}

@@ -2,17 +2,9 @@
 -- search finds a key's place. An accepted change writes one slot to its effect; at a begin no slot is of a run above current, so
 -- that the next number shows what current shows; a roll back leaves what current shows of each slot. What the table itself keeps in
 -- a history is `Sound`. Assumes nothing.
-use mathlib.Core.Path.{◌≡◌, refl, sym, ◌∙◌}
-use mathlib.Core.Bool.{true}
-use mathlib.Core.Logic.{⊎_elim}
-use mathlib.Core.List.{List, []}
-use Prim.Native.Nat.{ℕ, zero, suc, ◌+◌}
-use native.Mathlib.Omega.{arith}
-use lib.Dec.{ltb}
-use lib.IntN.{ℤ, pos}
-use lib.Signed.{le_z}
-use borrow.Author.Tests.{ltb-true, ltb-false, le-leb}
-use Rattle.std.specs.Prelude.{Option, None}
+use Rattle.std.specs.Prelude.{◌≡◌, refl, true, List, [], ℕ, zero, suc, ◌+◌, ltb, ℤ, pos, Option, None}
+use Rattle.std.specs.Int.Signed.{le_z}
+use Rattle.std.proofs.Common.{sym, ◌∙◌, ⊎_elim, arith, ltb-true, ltb-false, le-leb}
 use Rattle.laws.specs.TestLaws.{by_test, clash}
 use Rattle.laws.specs.OrderLaws.{le_z_refl, le_z_trans, from_to_lem}
 use Rattle.versions.specs.declared.VersionRecord.{VersionRecord}

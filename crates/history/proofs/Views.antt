@@ -1,15 +1,9 @@
 -- A view of a table: what each version shows of each slot, and which key a slot has. A row that is shown has its slot's key, and
 -- a slot has one key. Where no key has two slots, the rows that a version shows have no key twice, and the row of a key among
 -- them is what the key's slot shows: it is the only slot that has it. Assumes nothing.
-use mathlib.Core.Path.{◌≡◌, refl, sym, ap, ◌∙◌}
-use mathlib.Core.Bool.{Bool, true, false}
-use mathlib.Core.List.{◌∷◌, ◌++◌, map}
-use Prim.Native.Nat.{ℕ, zero, suc, ◌<◌}
-use native.Mathlib.Omega.{arith}
-use lib.Dec.{eqb}
-use lib.IntN.{ℤ}
-use borrow.Author.Tests.{eqb-false}
-use Rattle.std.specs.Prelude.{Option, Some, None, is_some, option_to_list}
+use Rattle.std.specs.Prelude.{◌≡◌, refl, Bool, true, false, ◌∷◌, ◌++◌, map, ℕ, zero, suc, ◌<◌, eqb, ℤ, Option, Some, None, is_some, option_to_list}
+use Rattle.std.proofs.Common.{sym, ap, ◌∙◌, arith}
+use Rattle.std.proofs.lemmas.Bool.{eqb-false}
 use Rattle.laws.specs.TestLaws.{by_test, clash}
 use Rattle.calls.specs.Rows.{Row}
 use Rattle.calls.specs.Terms.{tally}
