@@ -3,7 +3,7 @@
 // it read before, one at version 1 stays expired, and the next run has the number 3 again. Says each answer, a line each.
 #![tactic(auto)]
 
-use reader::{Numbered, Seen, VersionRecord};
+use reader::VersionRecord;
 use std::io;
 
 const REGION: i64 = 7;
@@ -11,28 +11,9 @@ const REGION: i64 = 7;
 // The table's words: 8 slots.
 const TABLE_WORDS: usize = 8 * reader::SLOT_WORDS;
 
-// A number; there is none below 0 in this day.
-fn say_number(rt: &impl Print, number: i64) -> io::Result<()> {
-    if number >= 0 {
-        print!(rt; "{number}")
-    } else {
-        print!(rt; "a number below 0")
-    }
-}
-
-// The number of a version, after what was done; or a refusal.
-fn say_version(rt: &impl Print, done: &str, answer: Numbered) -> io::Result<()> {
-    print!(rt; "{done}")?;
-    match answer {
-        Numbered::Version(version) => {
-            print!(rt; ": version ")?;
-            say_number(rt, version)?;
-        }
-        Numbered::Refused(number) => {
-            print!(rt; ": refused {number}")?;
-        }
-    }
-    println!(rt)
+// The number of a version, after what was done.
+fn say_version(rt: &impl Print, done: &str, version: i64) -> io::Result<()> {
+    println!(rt; "{done}: version {version}")
 }
 
 // What a session reads of a store: its first total, no row, or a refusal.
@@ -43,87 +24,61 @@ fn say_store(
     session: i64,
     store: i64,
 ) -> io::Result<()> {
-    print!(rt; "session ")?;
-    say_number(rt, session)?;
-    print!(rt; ", store ")?;
-    say_number(rt, store)?;
+    print!(rt; "session {session}, store {store}: ")?;
     match reader::read_key(table, versions, session, REGION, store) {
-        Seen::Row {
-            key1: _,
-            key2: _,
-            total1,
-            total2: _,
-        } => {
-            print!(rt; ": ")?;
-            say_number(rt, total1)?;
+        Ok(Some(row)) => {
+            let total = row.total1;
+            println!(rt; "{total}")
         }
-        Seen::NoRow => {
-            print!(rt; ": no row")?;
-        }
-        Seen::Refused(number) => {
-            print!(rt; ": refused {number}")?;
-        }
+        Ok(None) => println!(rt; "no row"),
+        Err(refusal) => println!(rt; "{refusal}"),
     }
-    println!(rt)
 }
 
 // Version 2: three stores.
-fn open_stores(rt: &impl Print, table: &mut [i64]) -> io::Result<VersionRecord> {
-    let begun = reader::begin_by_value(VersionRecord::fresh());
-    let running = begun.versions;
-    reader::put(table, running, REGION, 1, 400, 0);
-    reader::put(table, running, REGION, 2, 250, 0);
-    reader::put(table, running, REGION, 3, 350, 0);
-    let committed = reader::commit_by_value(running);
-    let answer = committed.answer;
-    let versions = committed.versions;
-    say_version(rt, "three stores are put in and committed", answer)?;
-    Ok(versions)
+fn open_stores(rt: &impl Print, table: &mut [i64], versions: &mut VersionRecord) -> anyhow::Result<()> {
+    reader::begin(versions)?;
+    reader::put(table, *versions, REGION, 1, 400, 0)?;
+    reader::put(table, *versions, REGION, 2, 250, 0)?;
+    reader::put(table, *versions, REGION, 3, 350, 0)?;
+    let committed = reader::commit(versions)?;
+    say_version(rt, "three stores are put in and committed", committed)?;
+    Ok(())
 }
 
 // Run 3 on the bad feed, rolled back.
-fn give_up(
-    rt: &impl Print,
-    table: &mut [i64],
-    versions: VersionRecord,
-) -> io::Result<VersionRecord> {
-    let begun = reader::begin_by_value(versions);
-    let began = begun.answer;
-    let running = begun.versions;
-    say_version(rt, "a run begins on a bad feed", began)?;
-    reader::put(table, running, REGION, 2, 5200, 0);
-    reader::delete(table, running, REGION, 3);
-    reader::put(table, running, REGION, 9, 100, 0);
-    let back = reader::roll_back_by_value(table, running);
-    let answer = back.answer;
-    let left = back.versions;
-    say_version(rt, "it is rolled back", answer)?;
-    Ok(left)
+fn give_up(rt: &impl Print, table: &mut [i64], versions: &mut VersionRecord) -> anyhow::Result<()> {
+    let begun = reader::begin(versions)?;
+    say_version(rt, "a run begins on a bad feed", begun)?;
+    reader::put(table, *versions, REGION, 2, 5200, 0)?;
+    reader::delete(table, *versions, REGION, 3)?;
+    reader::put(table, *versions, REGION, 9, 100, 0)?;
+    let back = reader::roll_back(table, versions)?;
+    say_version(rt, "it is rolled back", back)?;
+    Ok(())
 }
 
 // Run 3 again, on the right feed.
-fn go_on(rt: &impl Print, table: &mut [i64], versions: VersionRecord) -> io::Result<VersionRecord> {
-    let begun = reader::begin_by_value(versions);
-    let began = begun.answer;
-    let running = begun.versions;
-    say_version(rt, "a run begins on the right feed", began)?;
-    reader::put(table, running, REGION, 2, 205, 0);
-    let committed = reader::commit_by_value(running);
-    let answer = committed.answer;
-    let after = committed.versions;
-    say_version(rt, "it is committed", answer)?;
-    Ok(after)
+fn go_on(rt: &impl Print, table: &mut [i64], versions: &mut VersionRecord) -> anyhow::Result<()> {
+    let begun = reader::begin(versions)?;
+    say_version(rt, "a run begins on the right feed", begun)?;
+    reader::put(table, *versions, REGION, 2, 205, 0)?;
+    let committed = reader::commit(versions)?;
+    say_version(rt, "it is committed", committed)?;
+    Ok(())
 }
 
-fn main(rt: HostRuntime) -> io::Result<()> {
+fn main(rt: HostRuntime) -> anyhow::Result<()> {
     let mut table = [0i64; TABLE_WORDS];
-    let opened = open_stores(&rt, &mut table)?;
-    let left = give_up(&rt, &mut table, opened)?;
-    say_store(&rt, &table, left, 2, 2)?;
-    say_store(&rt, &table, left, 2, 3)?;
-    say_store(&rt, &table, left, 2, 9)?;
-    say_store(&rt, &table, left, 1, 2)?;
-    let after = go_on(&rt, &mut table, left)?;
-    say_store(&rt, &table, after, 2, 2)?;
-    say_store(&rt, &table, after, 3, 2)
+    let mut versions = VersionRecord::fresh();
+    open_stores(&rt, &mut table, &mut versions)?;
+    give_up(&rt, &mut table, &mut versions)?;
+    say_store(&rt, &table, versions, 2, 2)?;
+    say_store(&rt, &table, versions, 2, 3)?;
+    say_store(&rt, &table, versions, 2, 9)?;
+    say_store(&rt, &table, versions, 1, 2)?;
+    go_on(&rt, &mut table, &mut versions)?;
+    say_store(&rt, &table, versions, 2, 2)?;
+    say_store(&rt, &table, versions, 3, 2)?;
+    Ok(())
 }

@@ -1,33 +1,28 @@
 // The figures of RULES.md on blocks: each save's refusal and the check of its block, a line each.
 #![tactic(auto)]
 
-ghost use Rattle.std.specs.Prelude.{◌<◌};
-
-use blocks_saves::Saved;
+use blocks::BLOCK_BYTES;
+use refusals::Refusal;
 use std::io;
 use versions::VersionRecord;
 
-fn wide(byte: u8) -> u64
-    ensures { result < 256 }
-{
-    byte as u64
-}
-
 // The check of a block, its last word.
-fn check_of(block: [u8; 512]) -> u64 {
-    let low = wide(block[508]);
-    let second = wide(block[509]);
-    let third = wide(block[510]);
-    let high = wide(block[511]);
-    low + second * 256 + third * 65536 + high * 16777216
+fn check_of(block: &[u8; BLOCK_BYTES]) -> u32 {
+    u32::from_le_bytes([block[508], block[509], block[510], block[511]])
 }
 
-// A line: the refusal, and the check.
-fn print(rt: &impl Print, saved: Saved) -> io::Result<()> {
-    let refusal = saved.refusal;
-    let block = saved.block;
-    let check = check_of(block);
-    println!(rt; "{refusal} {check}")
+// A line: 0 and the check, or the refusal and 0, since there is no block.
+fn print(rt: &impl Print, saved: Result<[u8; BLOCK_BYTES], Refusal>) -> io::Result<()> {
+    match saved {
+        Ok(block) => {
+            let check = check_of(&block);
+            println!(rt; "0 {check}")
+        }
+        Err(refusal) => {
+            let number = refusal.number();
+            println!(rt; "{number} 0")
+        }
+    }
 }
 
 fn main(rt: HostRuntime) -> io::Result<()> {

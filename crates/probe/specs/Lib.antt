@@ -1,1 +1,4 @@
 pub mod Probed
+pub mod Answers
+pub mod AnswerLaws
+pub mod Saves

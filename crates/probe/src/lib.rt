@@ -8,15 +8,15 @@ ghost use Rattle.std.specs.Prelude.{◌≡◌, []};
 ghost use Rattle.calls.specs.Calls.{open_session, begin, commit, read_slot, read_key, roll_up, put, delete, roll_back, save_header, save_block, load_header, load_block};
 ghost use Rattle.probe.specs.Probed.{lent, out_after, table_after, record_after, block_after};
 
-mod lent;
 mod numbers;
 mod records;
+mod saves;
 
 // open: current
 pub fn probe_open(record_words: &[i64; 4], out: &mut [i64; 8])
     ensures { out.new ≡ out_after open_session (lent [] record_words.now []) }
 {
-    numbers::put_numbered(out, reader::open(records::version_of(record_words)));
+    numbers::put_answer(out, reader::open(records::version_of(record_words)));
 }
 
 // begin: the run's number
@@ -24,10 +24,10 @@ pub fn probe_begin(record_words: &mut [i64; 4], out: &mut [i64; 8])
     ensures out_after { out.new ≡ out_after begin (lent [] record_words.old []) }
     ensures record_words_after { record_words.new ≡ record_after begin record_words.old (lent [] record_words.old []) }
 {
-    let turned = lent::begin_by_value(records::version_of(record_words));
-    let answer = turned.answer;
-    records::keep_record(record_words, turned.versions);
-    numbers::put_numbered(out, answer);
+    let mut versions = records::version_of(record_words);
+    let answer = reader::begin(&mut versions);
+    records::keep_record(record_words, versions);
+    numbers::put_answer(out, answer);
 }
 
 // commit: the new current
@@ -35,10 +35,10 @@ pub fn probe_commit(record_words: &mut [i64; 4], out: &mut [i64; 8])
     ensures out_after { out.new ≡ out_after commit (lent [] record_words.old []) }
     ensures record_words_after { record_words.new ≡ record_after commit record_words.old (lent [] record_words.old []) }
 {
-    let turned = lent::commit_by_value(records::version_of(record_words));
-    let answer = turned.answer;
-    records::keep_record(record_words, turned.versions);
-    numbers::put_numbered(out, answer);
+    let mut versions = records::version_of(record_words);
+    let answer = reader::commit(&mut versions);
+    records::keep_record(record_words, versions);
+    numbers::put_answer(out, answer);
 }
 
 // read a slot: mark 1 and the row, or zeros
@@ -51,7 +51,7 @@ pub fn probe_read_slot(
 )
     ensures { out.new ≡ out_after (read_slot session slot) (lent table.now record_words.now []) }
 {
-    numbers::put_seen(
+    numbers::put_answer(
         out,
         reader::read_slot(table, records::version_of(record_words), session, slot),
     );
@@ -68,7 +68,7 @@ pub fn probe_read_key(
 )
     ensures { out.new ≡ out_after (read_key session key1 key2) (lent table.now record_words.now []) }
 {
-    numbers::put_seen(
+    numbers::put_answer(
         out,
         reader::read_key(
             table,
@@ -90,7 +90,7 @@ pub fn probe_roll_up(
 )
     ensures { out.new ≡ out_after (roll_up session key1) (lent table.now record_words.now []) }
 {
-    numbers::put_rolled(
+    numbers::put_answer(
         out,
         reader::roll_up(table, records::version_of(record_words), session, key1),
     );
@@ -109,7 +109,7 @@ pub fn probe_put(
     ensures out_after { out.new ≡ out_after (put key1 key2 total1 total2) (lent table.old record_words.now []) }
     ensures table_after { table.new ≡ table_after (put key1 key2 total1 total2) (lent table.old record_words.now []) }
 {
-    numbers::put_placed(
+    numbers::put_answer(
         out,
         reader::put(
             table,
@@ -133,7 +133,7 @@ pub fn probe_delete(
     ensures out_after { out.new ≡ out_after (delete key1 key2) (lent table.old record_words.now []) }
     ensures table_after { table.new ≡ table_after (delete key1 key2) (lent table.old record_words.now []) }
 {
-    numbers::put_placed(
+    numbers::put_answer(
         out,
         reader::delete(table, records::version_of(record_words), key1, key2),
     );
@@ -145,10 +145,10 @@ pub fn probe_roll_back(table: &mut [i64], record_words: &mut [i64; 4], out: &mut
     ensures table_after { table.new ≡ table_after roll_back (lent table.old record_words.old []) }
     ensures record_words_after { record_words.new ≡ record_after roll_back record_words.old (lent table.old record_words.old []) }
 {
-    let turned = reader::roll_back_by_value(table, records::version_of(record_words));
-    let answer = turned.answer;
-    records::keep_record(record_words, turned.versions);
-    numbers::put_numbered(out, answer);
+    let mut versions = records::version_of(record_words);
+    let answer = reader::roll_back(table, &mut versions);
+    records::keep_record(record_words, versions);
+    numbers::put_answer(out, answer);
 }
 
 // save header: block 0
@@ -162,9 +162,7 @@ pub fn probe_save_header(
     ensures block_after { block.new ≡ block_after save_header (lent table.now record_words.now block.old) }
 {
     let saved = reader::save_header(table, records::version_of(record_words));
-    let bytes = saved.block;
-    *block = bytes;
-    numbers::put_refusal(out, saved.refusal);
+    numbers::put_answer(out, saves::keep_block(block, saved));
 }
 
 // save block: block k from 1
@@ -179,16 +177,14 @@ pub fn probe_save_block(
     ensures block_after { block.new ≡ block_after (save_block number) (lent table.now record_words.now block.old) }
 {
     let saved = reader::save_block(table, records::version_of(record_words), number);
-    let bytes = saved.block;
-    *block = bytes;
-    numbers::put_refusal(out, saved.refusal);
+    numbers::put_answer(out, saves::keep_block(block, saved));
 }
 
 // load header: slots, current, oldest
 pub fn probe_load_header(block: &[u8], out: &mut [i64; 8])
     ensures { out.new ≡ out_after (load_header block.now) (lent [] [] []) }
 {
-    numbers::put_header(out, reader::load_header(block));
+    numbers::put_answer(out, reader::load_header(block));
 }
 
 // load block: its slots
@@ -202,7 +198,7 @@ pub fn probe_load_block(
     ensures out_after { out.new ≡ out_after (load_block number block.now) (lent table.old record_words.now []) }
     ensures table_after { table.new ≡ table_after (load_block number block.now) (lent table.old record_words.now []) }
 {
-    numbers::put_loaded(
+    numbers::put_answer(
         out,
         reader::load_block(table, records::version_of(record_words), number, block),
     );

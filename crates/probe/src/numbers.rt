@@ -1,108 +1,116 @@
-// The numbers of each answer, put into eight lent words: the refusal's or 0, then the answer's in order, and zeros. Each arm
+// The numbers of an answer, put into eight lent words: 0 and the answer's in order, or the refusal's number; and zeros. Each answer
 // writes its own: words handed back by value would be gathered in registers before it is known which they are.
-ghost use Rattle.std.specs.Prelude.{◌≡◌, [], ◌∷◌, pos};
-ghost use Rattle.calls.specs.Numbers.{of_numbered, of_seen, of_rolled, of_placed, of_header, of_loaded};
-ghost use Rattle.changes_rows.specs.PlacedNumbers.{Numbers};
+ghost use Rattle.std.specs.Prelude.{◌≡◌, List, [], ◌∷◌, ℤ, pos};
+ghost use Rattle.refusals.specs.Refusals.{number};
 ghost use Rattle.probe.specs.Probed.{padded};
+ghost use Rattle.probe.specs.Answers.{Fits, answered, version_numbers, slot_numbers, row_numbers, sums_numbers, header_numbers, no_numbers, Always, IsSlot};
 
-use reader::{Header, Loaded, Numbered, Placed, Rolled, Seen};
+use reader::{Header, Refusal, Row, Sums};
 
 // The mark of a row.
 const ROW: i64 = 1;
 
-// A refusal, or none: its number, and zeros.
-pub fn put_refusal(out: &mut [i64; 8], number: u32)
-    ensures { out.new ≡ padded (pos number ∷ []) }
-{
-    *out = [number as i64, 0, 0, 0, 0, 0, 0, 0];
+// What a call answers where nothing refuses it, as numbers.
+pub trait Numbers {
+    ghost numbers: { Self → List ℤ };
+
+    // What it has to be for its numbers to be words.
+    ghost fits: { Self → Type 0 };
+
+    fn put(self, out: &mut [i64; 8])
+        requires { fits self }
+        ensures { out.new ≡ padded (pos 0 ∷ numbers self) };
 }
 
-pub fn put_numbered(out: &mut [i64; 8], answer: Numbered)
-    ensures { out.new ≡ padded (of_numbered answer) }
+// An answer, or the refusal's number and zeros.
+pub fn put_answer<A: Numbers>(out: &mut [i64; 8], answer: Result<A, Refusal>)
+    requires { Fits A.fits answer }
+    ensures { out.new ≡ padded (answered A.numbers answer) }
 {
     match answer {
-        Numbered::Version(versions) => {
-            *out = [0, versions, 0, 0, 0, 0, 0, 0];
+        Ok(x) => x.put(out),
+        Err(refusal) => {
+            *out = [refusal.number() as i64, 0, 0, 0, 0, 0, 0, 0];
         }
-        Numbered::Refused(number) => put_refusal(out, number),
     }
 }
 
-pub fn put_seen(out: &mut [i64; 8], answer: Seen)
-    ensures { out.new ≡ padded (of_seen answer) }
-{
-    match answer {
-        Seen::Row {
-            key1,
-            key2,
-            total1,
-            total2,
-        } => {
-            *out = [0, ROW, key1, key2, total1, total2, 0, 0];
-        }
-        Seen::NoRow => put_refusal(out, 0),
-        Seen::Refused(number) => put_refusal(out, number),
+// The number of a version.
+impl Numbers for i64 {
+    ghost numbers = { version_numbers };
+
+    ghost fits = { Always };
+
+    fn put(self, out: &mut [i64; 8]) {
+        *out = [0, self, 0, 0, 0, 0, 0, 0];
     }
 }
 
-pub fn put_rolled(out: &mut [i64; 8], answer: Rolled)
-    ensures { out.new ≡ padded (of_rolled answer) }
-{
-    match answer {
-        Rolled::Sums {
-            rows,
-            reported1,
-            reported2,
-            sum1,
-            sum2,
-        } => {
-            *out = [
-                0,
-                rows as i64,
-                reported1 as i64,
-                reported2 as i64,
-                sum1,
-                sum2,
-                0,
-                0,
-            ];
-        }
-        Rolled::Refused(number) => put_refusal(out, number),
+// The number of a slot.
+impl Numbers for usize {
+    ghost numbers = { slot_numbers };
+
+    ghost fits = { IsSlot };
+
+    fn put(self, out: &mut [i64; 8]) {
+        *out = [0, self as i64, 0, 0, 0, 0, 0, 0];
     }
 }
 
-pub fn put_placed(out: &mut [i64; 8], answer: Placed)
-    requires { Numbers answer }
-    ensures { out.new ≡ padded (of_placed answer) }
-{
-    match answer {
-        Placed::InSlot(slot) => {
-            *out = [0, slot as i64, 0, 0, 0, 0, 0, 0];
+// A row under its mark, or zeros.
+impl Numbers for Option<Row> {
+    ghost numbers = { row_numbers };
+
+    ghost fits = { Always };
+
+    fn put(self, out: &mut [i64; 8]) {
+        match self {
+            Some(row) => {
+                *out = [0, ROW, row.key1, row.key2, row.total1, row.total2, 0, 0];
+            }
+            None => {
+                *out = [0; 8];
+            }
         }
-        Placed::Refused(number) => put_refusal(out, number),
     }
 }
 
-pub fn put_header(out: &mut [i64; 8], answer: Header)
-    ensures { out.new ≡ padded (of_header answer) }
-{
-    match answer {
-        Header::Holds {
-            slots,
-            current,
-            oldest,
-        } => {
-            *out = [0, slots as i64, current, oldest, 0, 0, 0, 0];
-        }
-        Header::Refused(number) => put_refusal(out, number),
+impl Numbers for Sums {
+    ghost numbers = { sums_numbers };
+
+    ghost fits = { Always };
+
+    fn put(self, out: &mut [i64; 8]) {
+        *out = [
+            0,
+            self.rows as i64,
+            self.reported1 as i64,
+            self.reported2 as i64,
+            self.sum1,
+            self.sum2,
+            0,
+            0,
+        ];
     }
 }
 
-pub fn put_loaded(out: &mut [i64; 8], answer: Loaded)
-    ensures { out.new ≡ padded (of_loaded answer) }
-{
-    match answer {
-        Loaded::Done => put_refusal(out, 0),
-        Loaded::Refused(number) => put_refusal(out, number),
+impl Numbers for Header {
+    ghost numbers = { header_numbers };
+
+    ghost fits = { Always };
+
+    fn put(self, out: &mut [i64; 8]) {
+        *out = [0, self.slots as i64, self.current, self.oldest, 0, 0, 0, 0];
+    }
+}
+
+// A save, or a load of a block: nothing more.
+impl Numbers for () {
+    ghost numbers = { no_numbers };
+
+    ghost fits = { Always };
+
+    fn put(self, out: &mut [i64; 8]) {
+        *out = [0; 8];
     }
 }

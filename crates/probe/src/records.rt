@@ -1,6 +1,6 @@
 // The record as four words: current, the run mark, the oldest open version, and one that stays as it is.
 ghost use Rattle.std.specs.Prelude.{◌≡◌};
-ghost use Rattle.probe.specs.Probed.{marked, version_of, mark_of, record_with};
+ghost use Rattle.probe.specs.Probed.{marked, version_of, record_with};
 
 use reader::VersionRecord;
 
@@ -42,19 +42,13 @@ pub fn version_of(record_words: &[i64; 4]) -> VersionRecord
     }
 }
 
-fn mark_of(active: bool) -> i64
-    ensures { result ≡ mark_of active }
-{
-    if active { ACTIVE } else { IDLE }
-}
-
 // The version that a call left, put into the record's words; one with another mark stays as it is.
 pub fn keep_record(record_words: &mut [i64; 4], versions: VersionRecord)
     ensures { record_words.new ≡ record_with record_words.old versions }
 {
     let current = versions.current;
     let oldest = versions.oldest;
-    let mark = mark_of(versions.active);
+    let mark = i64::from(versions.active);
     if is_marked(record_words) {
         record_words[CURRENT_PLACE] = current;
         record_words[MARK_PLACE] = mark;

@@ -7,7 +7,7 @@ ghost use Rattle.std.specs.Prelude.{◌≡◌, true, false};
 ghost use Rattle.versions.specs.Record.{fresh_record, bad_record, run_number, last_run, ActiveRun};
 ghost use Rattle.versions.specs.Sessions.{unborn, expired, OpenSession};
 
-#[derive(Clone, Copy)]
+#[derive(Clone, Copy, Debug, PartialEq, Eq)]
 pub struct VersionRecord {
     pub current: i64,
     pub active: bool,

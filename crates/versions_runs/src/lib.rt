@@ -1,11 +1,20 @@
-// Open, begin and commit. Begin and commit alter the record where it stands; a refusal leaves it as it was.
+// Open, begin and commit. Begin and commit alter the record where it stands, or are handed it and hand it back by value; a refusal
+// leaves it as it was.
 #![tactic(auto)]
 
 ghost use Rattle.std.specs.Prelude.{◌≡◌};
+ghost use Rattle.std.specs.Fn.{FnOnceReturnsAtMut};
 ghost use Rattle.versions_runs.specs.Runs.{OpenContract, BeginContract, CommitContract};
 
 use refusals::Refusal;
 use versions::VersionRecord;
+
+// What a turn by value leaves: its answer, and the record.
+#[derive(Clone, Copy, Debug, PartialEq, Eq)]
+pub struct Turned {
+    pub answer: Result<i64, Refusal>,
+    pub versions: VersionRecord,
+}
 
 // Open: current, run or no run.
 pub fn open(versions: VersionRecord) -> Result<i64, Refusal>
@@ -57,4 +66,34 @@ pub fn commit(versions: &mut VersionRecord) -> Result<i64, Refusal>
     versions.current = next;
     versions.active = false;
     Ok(next)
+}
+
+// A turn of a lent record, made by value: the record stands in a local, and is lent to it.
+pub fn by_value<F: FnOnce(&mut VersionRecord) -> Result<i64, Refusal>>(
+    turn: F,
+    versions: VersionRecord,
+) -> Turned
+    requires { F.IsAlwaysCallable turn }
+    ensures { FnOnceReturnsAtMut F.FnOnce turn versions result.answer result.versions }
+{
+    let mut lent = versions;
+    let answer = turn(&mut lent);
+    Turned {
+        answer,
+        versions: lent,
+    }
+}
+
+// Begin, by value.
+pub fn begin_by_value(versions: VersionRecord) -> Turned
+    ensures { BeginContract versions result.answer result.versions }
+{
+    by_value(begin, versions)
+}
+
+// Commit, by value.
+pub fn commit_by_value(versions: VersionRecord) -> Turned
+    ensures { CommitContract versions result.answer result.versions }
+{
+    by_value(commit, versions)
 }
