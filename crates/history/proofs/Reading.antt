@@ -1,7 +1,7 @@
 -- What is read where the invariant holds, at a committed version that is not gone: the rows shown are a permutation of its
 -- database, so a key's row, a slot's row and the counts and sums of a region are the database's. A session that reads each slot once, at
 -- any places of what follows, gets a permutation of it, since a step keeps what each slot shows there. Assumes nothing.
-use Rattle.std.specs.Prelude.{◌≡◌, refl, true, List, [], ◌∷◌, ◌++◌, map, ℕ, zero, suc, ◌≤◌, ◌<◌, ℤ, length, Option, is_some, option_to_list}
+use Rattle.std.specs.Prelude.{◌≡◌, refl, true, List, [], ◌∷◌, ◌++◌, map, ℕ, zero, suc, ◌≤◌, ◌<◌, ℤ, length, is_some, option_to_list}
 use Rattle.std.proofs.Common.{sym, ap, ◌∙◌, arith}
 use Rattle.std.proofs.Math.Logic.{∥∥₁_map}
 use mathlib.Core.List.{Perm}

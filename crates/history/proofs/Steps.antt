@@ -1,7 +1,7 @@
 -- What every call does to the table of two versions: the table and its record stay sound, and its view makes a step. A refused call
 -- leaves the words, the record and what is followed as they were; an accepted change, begin, commit or roll back is a lemma of
 -- `Table`. Assumes nothing.
-use Rattle.std.specs.Prelude.{◌≡◌, refl, false, List, [], ◌∷◌, ◌++◌, ℕ, ℤ, Option, Some, None, Result, Ok, option_to_list}
+use Rattle.std.specs.Prelude.{◌≡◌, refl, false, List, [], ◌∷◌, ◌++◌, ℕ, ℤ, Option, Some, None, Result, option_to_list}
 use Rattle.std.proofs.Common.{sym, ap, ◌∙◌}
 use Rattle.laws.specs.TestLaws.{clash}
 use Rattle.versions.specs.declared.VersionRecord.{VersionRecord}

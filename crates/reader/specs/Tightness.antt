@@ -5,6 +5,7 @@ use Rattle.std.specs.Prelude.{◌≡◌, List, ℕ, ℤ, Option, Result}
 use Rattle.std.proofs.Common.{sym, ◌∙◌}
 use Rattle.refusals.specs.declared.Refusal.{Refusal}
 use Rattle.versions.specs.declared.VersionRecord.{VersionRecord}
+use Rattle.versions_runs.specs.declared.Turned.{Turned}
 use Rattle.versions_runs.specs.Runs.{OpenContract, BeginContract, CommitContract}
 use Rattle.versions_runs.specs.RunLaws.{one_opened, one_begun, one_committed}
 use Rattle.reads.specs.declared.Row.{Row}
@@ -35,6 +36,9 @@ pub record Tight : Type 0 where
   -- the record that begin and commit leave is u
   pub of_begin : {v u u' : VersionRecord} {r r' : Result ℤ Refusal} → BeginContract v r u → BeginContract v r' u' → (r ≡ r') × (u ≡ u')
   pub of_commit : {v u u' : VersionRecord} {r r' : Result ℤ Refusal} → CommitContract v r u → CommitContract v r' u' → (r ≡ r') × (u ≡ u')
+  -- by value, what is left is the answer and the record
+  pub of_begin_by_value : {v : VersionRecord} {r r' : Turned} → BeginContract v r.answer r.versions → BeginContract v r'.answer r'.versions → r ≡ r'
+  pub of_commit_by_value : {v : VersionRecord} {r r' : Turned} → CommitContract v r.answer r.versions → CommitContract v r'.answer r'.versions → r ≡ r'
   pub of_read_slot : {t : List ℤ} {v : VersionRecord} {s : ℤ} {k : ℕ} {r r' : Result (Option Row) Refusal}
       → ReadSlotContract t v s k r → ReadSlotContract t v s k r' → r ≡ r'
   pub of_read_key : {t : List ℤ} {v : VersionRecord} {s key1 key2 : ℤ} {r r' : Result (Option Row) Refusal}
@@ -49,6 +53,8 @@ pub record Tight : Type 0 where
   -- a roll back leaves both
   pub of_roll_back : {t u u' : List ℤ} {v v' v'' : VersionRecord} {r r' : Result ℤ Refusal}
       → RollBackContract t v r u v' → RollBackContract t v r' u' v'' → (r ≡ r') × (v' ≡ v'') × (u ≡ u')
+  pub of_roll_back_by_value : {t u u' : List ℤ} {v : VersionRecord} {r r' : Turned}
+      → RollBackContract t v r.answer u r.versions → RollBackContract t v r'.answer u' r'.versions → (r ≡ r') × (u ≡ u')
   -- a save answers the bytes of the block
   pub of_save_header : {t : List ℤ} {v : VersionRecord} {r r' : Result (List ℕ) Refusal} → SaveHeaderContract t v r → SaveHeaderContract t v r' → r ≡ r'
   pub of_save_block : {t : List ℤ} {v : VersionRecord} {k : ℕ} {r r' : Result (List ℕ) Refusal}
@@ -57,17 +63,23 @@ pub record Tight : Type 0 where
   pub of_load_block : {t u u' : List ℤ} {v : VersionRecord} {k : ℕ} {block : List ℕ} {r r' : Result Unit Refusal}
       → LoadBlockContract t v k block r u → LoadBlockContract t v k block r' u' → (r ≡ r') × (u ≡ u')
 
+one_turned : {r r' : Turned} → r.answer ≡ r'.answer → r.versions ≡ r'.versions → r ≡ r'
+one_turned a v i = record { answer = a i; versions = v i }
+
 pub tight : Tight
 tight = record {
   of_open = one_opened;
   of_begin = one_begun;
   of_commit = one_committed;
+  of_begin_by_value = λ a b. one_turned (one_begun a b).0 (one_begun a b).1;
+  of_commit_by_value = λ a b. one_turned (one_committed a b).0 (one_committed a b).1;
   of_read_slot = read_slot.one_outcome;
   of_read_key = read_key.one_outcome;
   of_roll_up = roll_up.one_outcome;
   of_put = put.one_outcome;
   of_delete = delete.one_outcome;
   of_roll_back = λ a b. (a.answer ∙ sym b.answer, a.versions ∙ sym b.versions, a.words ∙ sym b.words);
+  of_roll_back_by_value = λ a b. (one_turned (a.answer ∙ sym b.answer) (a.versions ∙ sym b.versions), a.words ∙ sym b.words);
   of_save_header = save_header.one_outcome;
   of_save_block = save_block.one_outcome;
   of_load_header = load_header.one_outcome;

@@ -21,6 +21,9 @@ pub use versions_runs::begin;
 pub use versions_runs::commit;
 // Roll it back, on a lent record: every open session reads what it read before the run, and current is answered.
 pub use changes_roll_back::roll_back;
+// Begin, commit and roll back with the record handed over and back by value, and what they leave: the answer and the record.
+pub use changes_roll_back::roll_back_by_value;
+pub use versions_runs::{Turned, begin_by_value, commit_by_value};
 // Read a slot, at a session's version: a row, or none.
 pub use reads::read_slot;
 // Read a key, at a session's version: its row, or none.
