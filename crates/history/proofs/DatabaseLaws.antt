@@ -19,8 +19,8 @@ use Rattle.table_forms.specs.Totals.{not_reported}
 use Rattle.reads_roll_up.specs.declared.Reported.{Reported}
 use Rattle.reads_roll_up.specs.declared.Tally.{Tally}
 use Rattle.reads_roll_up.specs.RollUp.{with_total, counted, tally, sums}
-use Rattle.history.specs.Databases.{Database, is_key, holds, NoRepeat, without, found, region, reporting, sum_of, rolled_up, beside}
 use Rattle.calls.specs.Rows.{Row}
+use Rattle.history.specs.Databases.{Database, is_key, holds, NoRepeat, without, found, region, reporting, sum_of, rolled_up, beside}
 
 -- ---- tests
 pub neither : (a b : Bool) → a || b ≡ false → (a ≡ false) × (b ≡ false)
@@ -68,23 +68,23 @@ without_absent p q (r ∷ d) h =
 
 -- ---- the rows that pass a test, in another order
 module _ (test : Row → Bool) where
-  those-head : (r : Row) (d e : Database) → Permᴰ (filter test d) (filter test e) → Permᴰ (filter test (r ∷ d)) (filter test (r ∷ e))
-  those-head r d e x = by_test (test r) (λ y. rw y (Permᴰ.cons refl x)) (λ n. rw n x)
+  filter-head : (r : Row) (d e : Database) → Permᴰ (filter test d) (filter test e) → Permᴰ (filter test (r ∷ d)) (filter test (r ∷ e))
+  filter-head r d e x = by_test (test r) (λ y. rw y (Permᴰ.cons refl x)) (λ n. rw n x)
 
-  those_swap : (a b : Row) (d : Database) → Permᴰ (filter test (a ∷ b ∷ d)) (filter test (b ∷ a ∷ d))
-  those_swap a b d =
+  filter_swap : (a b : Row) (d : Database) → Permᴰ (filter test (a ∷ b ∷ d)) (filter test (b ∷ a ∷ d))
+  filter_swap a b d =
       by_test (test a)
       (λ y. rw y (by_test (test b) (λ z. rw z (Permᴰ.swap refl refl)) (λ m. rw m (Permᴰ.refl _))))
       (λ n. rw n (Permᴰ.refl _))
 
-  pub those-perm : {d e : Database} → Permᴰ d e → Permᴰ (filter test d) (filter test e)
-  those-perm = by_perm (λ d e. Permᴰ (filter test d) (filter test e)) Permᴰ.nil those-head those_swap (λ d e f. Permᴰ.trans)
+  pub filter-perm : {d e : Database} → Permᴰ d e → Permᴰ (filter test d) (filter test e)
+  filter-perm = by_perm (λ d e. Permᴰ (filter test d) (filter test e)) Permᴰ.nil filter-head filter_swap (λ d e f. Permᴰ.trans)
 
 pub without-perm : (p q : ℤ) {d e : Database} → Permᴰ d e → Permᴰ (without p q d) (without p q e)
-without-perm p q = those-perm (λ r. not (is_key p q r))
+without-perm p q = filter-perm (λ r. not (is_key p q r))
 
 pub beside-perm : (a : Database) {d e : Database} → Permᴰ d e → Permᴰ (beside a d) (beside a e)
-beside-perm a = those-perm (λ r. not (holds r.key1 r.key2 a))
+beside-perm a = filter-perm (λ r. not (holds r.key1 r.key2 a))
 
 -- ---- no key twice
 -- the key of a row that is no other's is not the other's either
@@ -147,13 +147,13 @@ rolled_perm key1 {d} {e} p i = record {
 }
   where
     rows : length (region key1 d) ≡ length (region key1 e)
-    rows = ∥∥₁_elim p (ℕ_set _ _) (λ q. permᴰ-length (those-perm _ q))
+    rows = ∥∥₁_elim p (ℕ_set _ _) (λ q. permᴰ-length (filter-perm _ q))
 
     report : (total : Row → ℤ) → length (reporting total (region key1 d)) ≡ length (reporting total (region key1 e))
-    report total = ∥∥₁_elim p (ℕ_set _ _) (λ q. permᴰ-length (those-perm _ (those-perm _ q)))
+    report total = ∥∥₁_elim p (ℕ_set _ _) (λ q. permᴰ-length (filter-perm _ (filter-perm _ q)))
 
     sum : (total : Row → ℤ) → sum_of total (reporting total (region key1 d)) ≡ sum_of total (reporting total (region key1 e))
-    sum total = ∥∥₁_elim p (ℤ_set _ _) (λ q. sum-perm total (those-perm _ (those-perm _ q)))
+    sum total = ∥∥₁_elim p (ℤ_set _ _) (λ q. sum-perm total (filter-perm _ (filter-perm _ q)))
 
 -- ---- the library's tally of a database: what its rows report of a total, and what they come to
 abbrev report_of : (Row → ℤ) → Database → Reported

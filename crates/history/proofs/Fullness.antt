@@ -31,15 +31,15 @@ together-perm {a} {a'} {b} {b'} x y =
 abbrev alone : Option Row → Option Row → Option Row
 alone one other = cond (is_some one) None other
 
-either-slot : (one other : Option Row) (d e : Database) {f : Database} → Permᴰ (d ++ e) f
+either_slot : (one other : Option Row) (d e : Database) {f : Database} → Permᴰ (d ++ e) f
     → Permᴰ ((option_to_list one ++ d) ++ (option_to_list (alone one other) ++ e)) (option_to_list (option_or one other) ++ f)
-either-slot (Some r) other d e x = Permᴰ.cons refl x
-either-slot None other d e x = Permᴰ.trans (front d (option_to_list other) e) (Permᴰ.append_left (option_to_list other) x)
+either_slot (Some r) other d e x = Permᴰ.cons refl x
+either_slot None other d e x = Permᴰ.trans (front d (option_to_list other) e) (Permᴰ.append_left (option_to_list other) x)
 
 either_rows : (f g : ℕ → Option Row) (m : ℕ)
     → Permᴰ (rows_for f (up_to m) ++ rows_for (λ k. alone (f k) (g k)) (up_to m)) (rows_for (λ k. option_or (f k) (g k)) (up_to m))
 either_rows f g zero = Permᴰ.nil
-either_rows f g (suc m) = either-slot (f m) (g m) _ _ (either_rows f g m)
+either_rows f g (suc m) = either_slot (f m) (g m) _ _ (either_rows f g m)
 
 -- ---- counting: the rows number the slots exactly when every slot shows one
 slot_count : (r : Option Row) → length (option_to_list r) ≡ cond (is_some r) 1 0
@@ -98,9 +98,9 @@ pub open_versions_lem : (n : ℕ) (g : Followed) → AllOpen n g (open_versions 
 open_versions_lem n g = all_open n g (suc (current g)) (omega arith)
 
 -- a slot shows a row at one of several versions if it does at the run's number or at one of them, and none if it does at none
-either-shows : (one other : Option Row) → is_some (option_or one other) ≡ is_some one || is_some other
-either-shows (Some r) other = refl
-either-shows None other = refl
+either_shows : (one other : Option Row) → is_some (option_or one other) ≡ is_some one || is_some other
+either_shows (Some r) other = refl
+either_shows None other = refl
 
 module _ (T : View) (n : ℕ) (g : Followed) (run j : ℕ) where
   any_none : (ss : List ℕ) → AllOpen n g ss → ((s : ℕ) → Committed g s → (Gone n g s → ⊥) → T.shown s j ≡ None) → T.shown run j ≡ None
@@ -110,15 +110,15 @@ module _ (T : View) (n : ℕ) (g : Followed) (run j : ℕ) where
 
   any_run : (ss : List ℕ) → is_some (T.shown run j) ≡ true → is_some (any_shown T ss run j) ≡ true
   any_run [] h = h
-  any_run (s ∷ ss) h = either-shows (T.shown s j) (any_shown T ss run j) ∙ rw (any_run ss h) (or-true (is_some (T.shown s j)))
+  any_run (s ∷ ss) h = either_shows (T.shown s j) (any_shown T ss run j) ∙ rw (any_run ss h) (or-true (is_some (T.shown s j)))
 
   any_in : (b s : ℕ) → s < b → is_open n g s ≡ true → is_some (T.shown s j) ≡ true → is_some (any_shown T (open_of n g (up_to b)) run j) ≡ true
   any_in zero s l o h = absurd (omega arith)
   any_in (suc b) s l o h =
       by_test (eqb s b)
-      (λ y. let e : s ≡ b = eqb-true s b y in rw (rw e at o) (either-shows (T.shown b j) _ ∙ rw (rw e at h)))
+      (λ y. let e : s ≡ b = eqb-true s b y in rw (rw e at o) (either_shows (T.shown b j) _ ∙ rw (rw e at h)))
       (λ ne. let rest = any_in b s (omega (arith, eqb-false s b ne)) o h in
-      by_test (is_open n g b) (λ y. rw y (either-shows (T.shown b j) _ ∙ rw rest (or-true (is_some (T.shown b j))))) (λ e. rw e rest))
+      by_test (is_open n g b) (λ y. rw y (either_shows (T.shown b j) _ ∙ rw rest (or-true (is_some (T.shown b j))))) (λ e. rw e rest))
 
   -- so where a slot is free exactly when none shows a row of it
   pub taken_open : (free : Bool) → (free ≡ true → T.shown run j ≡ None)

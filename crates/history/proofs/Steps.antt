@@ -71,8 +71,8 @@ module _ (m : ℕ) (w : TableWorld) (i : Well m w) where
         sound = rw (ok.record_after, ok.words) (back-sound i.sound i.inv e);
         step = rw ok.words (undo_step i.inv (back_fewer i.sound i.inv e) (back_stays i.sound i.inv e));
       })
-  undone (Some refused) e =
-      let no_turn = roll_back_refuses w.state.words w.state.versions refused e in
+  undone (Some refusal) e =
+      let no_turn = roll_back_refuses w.state.words w.state.versions refusal e in
       quiet _ no_turn.words no_turn.record_kept (rw no_turn.answer refl)
 
   -- a change, by what came of it; an accepted one makes of the running database what its effect says
@@ -80,7 +80,7 @@ module _ (m : ℕ) (w : TableWorld) (i : Well m w) where
       → changed c (running w.told) ≡ option_to_list after ++ without key1 key2 (running w.told)
       → Came w.state.words w.state.versions key1 key2 after r t'
       → Goes m w (record { state = with_words w.state t'; told = hear (heard_changes (answer.placed r) (c ∷ [])) w.told })
-  change c key1 key2 after r t' e (refuses refused x) = quiet _ x.words refl (rw x.answer refl)
+  change c key1 key2 after r t' e (refuses refusal x) = quiet _ x.words refl (rw x.answer refl)
   change c key1 key2 after r t' e (accepts k x wrote) =
       let a = sym i.sound.recorded.active ∙ x.active in
       rw x.answer
@@ -93,8 +93,8 @@ module _ (m : ℕ) (w : TableWorld) (i : Well m w) where
   load_refused : (k : ℕ) (b : List ℕ) (refusal : Option Refusal) → load_block_refusal w.state.words w.state.versions k b ≡ refusal
       → is_load (heard_of {K = two_versions} (load_block k b) w) ≡ false → Goes m w (next {K = two_versions} (load_block k b) w)
   load_refused k b None e no_load = clash (ap (λ r. is_load (if_accepted (answer.loaded r) loaded_block)) (load.load_accepts _ _ k b e)) no_load
-  load_refused k b (Some refused) e no_load =
-      let x = load.load_refuses _ _ k b refused e in
+  load_refused k b (Some refusal) e no_load =
+      let x = load.load_refuses _ _ k b refusal e in
       quiet _ x.words refl (rw x.answer refl)
 
   -- ---- every call
