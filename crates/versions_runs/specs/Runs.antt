@@ -1,11 +1,12 @@
 -- Open, begin and commit: the refusals of each in the order of RULES.md (The order of tests), its answer, the record that it
 -- leaves, and the contract that says so. Each contract allows one outcome. Assumes nothing.
-use Rattle.std.specs.Prelude.{◌≡◌, Bool, true, false, List, [], ◌∷◌, ℤ, Option, Result}
+use Rattle.std.specs.Prelude.{◌≡◌, Bool, true, false, List, [], ◌∷◌, ℤ, Option, Result, Err}
 use Rattle.refusals.specs.declared.Refusal.{Refusal}
 use Rattle.refusals.specs.declared.Refusal.TheVariants as refusal
 use Rattle.laws.specs.First.{first, unless, kept_or}
 use Rattle.laws.specs.Order.{eq_z}
 use Rattle.versions.specs.declared.VersionRecord.{VersionRecord}
+use Rattle.versions_runs.specs.declared.Turned.{Turned}
 use Rattle.versions.specs.Record.{largest_version, bad_record, idle, run_number}
 
 -- ---- open: 2
@@ -21,6 +22,14 @@ open_answer v = unless (open_refusal v) v.current
 
 pub record OpenContract (v : VersionRecord) (r : Result ℤ Refusal) : Type 0 where
   pub answer : r ≡ open_answer v
+
+-- a refusal leaves the record as it was
+abbrev pub kept_as : VersionRecord → Refusal → Turned
+kept_as v e = record { answer = Err e; versions = v }
+
+-- an answer, and the record that is left with it
+abbrev pub turned_to : Result ℤ Refusal → VersionRecord → Turned
+turned_to r v = record { answer = r; versions = v }
 
 -- ---- begin: 2, 7, 9
 abbrev pub begin_tests : VersionRecord → List (Bool × Refusal)
