@@ -1,11 +1,11 @@
 -- A field as a number, as the code reads it: by its first byte with a minus or without, and by the limit of each. Assumes nothing.
-use Rattle.std.specs.Prelude.{◌≡◌, refl, Bool, true, false, cond, List, [], ◌∷◌, ℕ, zero, suc, ◌≤◌, ltb, leb, ℤ, pos, neg_ℤ, ◌-ℤ◌, get_or, drop, Option, Some, None, SomeIff, Result, Ok, Err, OkIff, FitsSigned}
+use Rattle.std.specs.Prelude.{◌≡◌, refl, Bool, true, false, cond, List, [], ◌∷◌, ℕ, zero, suc, ◌≤◌, ltb, leb, ℤ, pos, neg_ℤ, ◌-ℤ◌, length, get_or, drop, Option, Some, None, SomeIff, Result, Ok, Err, OkIff, FitsSigned}
 use Rattle.std.proofs.Common.{ap, ne_eqb, eq-eqb, lt-ltb, le-leb, ltb-true, leb-true, arith}
 use Rattle.std.proofs.lemmas.Int.{ints}
 use Rattle.std.specs.Int.{w64}
 use Rattle.std.specs.Result.{result_ok}
 use Rattle.laws.specs.TestLaws.{clash}
-use Rattle.steps_commands.specs.Numerals.{minus_byte, signed_limit, digits_of, unsigned_of, minus_of, number_of}
+use Rattle.steps_commands.specs.Numerals.{minus_byte, most_digits, signed_limit, all_digits, decimal_from, digits_of, unsigned_of, minus_of, number_of}
 
 -- ---- by its first byte
 pub minus_field : (bs : List ℕ) → get_or bs 0 0 ≡ minus_byte → number_of bs ≡ minus_of (drop 1 bs)
@@ -17,6 +17,11 @@ pub plain_field : (bs : List ℕ) → (get_or bs 0 0 ≡ minus_byte → ⊥) →
 unfolding number_of digits_of
 plain_field [] h = refl
 plain_field (b ∷ bs) h = rw (ne_eqb b minus_byte h) refl
+
+-- ---- 1 to 19 digits are the number that they make
+pub digits_make : (bs : List ℕ) → 1 ≤ length bs → length bs ≤ most_digits → all_digits bs ≡ true → digits_of bs ≡ Some (decimal_from 0 bs)
+unfolding digits_of
+digits_make bs some few digits = simp (le-leb 1 (length bs) some, le-leb (length bs) most_digits few, digits)
 
 -- ---- by its limit: there is a number exactly where the limit allows it
 there : {A : Type 0} (P : Type 0) (t : Bool) (r : Option A) (v : A) → (P → t ≡ true) → (t ≡ true → P) → SomeIff r P v → r ≡ cond t (Some v) None

@@ -1,44 +1,63 @@
 -- How a session goes on being carried: over no bytes it stands as it stood, over bytes after bytes as over all of them, and at the
 -- end as if its replies had not been written out before. Assumes nothing.
-use Rattle.std.specs.Prelude.{◌≡◌, refl, Bool, true, false, List, [], ◌++◌, ℕ, ℤ, take}
-use Rattle.std.proofs.Common.{ap, ◌∙◌}
+use Rattle.std.specs.Prelude.{◌≡◌, refl, Bool, true, false, List, [], ◌++◌, ℕ, ℤ, length, take, drop}
+use Rattle.std.proofs.Common.{ap, sym, ◌∙◌, append_assoc}
+use Rattle.std.proofs.lemmas.List.{take-append-drop}
+use Rattle.std.proofs.Math.Seq.{take-append_seam}
+use Rattle.laws.specs.TestLaws.{clash}
+use Rattle.arrayvec.specs.ArrayString.{ArrayString}
 use Rattle.steps_lines.specs.declared.Progress.{Progress}
-use Rattle.steps_lines.specs.LineSessions.{LineSession, fresh_session, written_out, after_bytes}
+use Rattle.steps_lines.specs.LineSessions.{LineSession, fresh_session, written_out, after_bytes, finished}
 use Rattle.steps_lines.specs.LineSessionLaws.{no_bytes, written_between, written_last}
 use Rattle.steps_lines.specs.Standing.{StandsFor}
-use Rattle.steps_io.specs.declared.Step.{Step}
-use Rattle.steps_io.specs.Carried.{Carried, CarriedInput, CarriedSome, CarriedLast, CarriedAll, at_end}
+use Rattle.steps_io.specs.Carried.{Carried, CarriedFront, CarriedSome, CarriedAll}
 
--- the replies are written, and the buffer begins anew
-pub stands_written : {s : LineSession} {t : List ℤ} {l b : List ℕ} {p : Progress} → StandsFor s t l b p
-    → StandsFor (written_out s) t l b (record { versions = p.versions; kept = p.kept; place = 0 })
-stands_written w = record { words = w.words; versions = w.versions; line = w.line; output = refl }
+module _ {size : ℕ} {p : Progress size} where
+  -- the replies are written, and none waits
+  pub replies_written : (replies : ArrayString) → replies.bytes ≡ []
+      → Carried p [] (record { table = p.table; versions = p.versions; line = p.line; replies = replies })
+  replies_written replies e = record {
+    stands = λ s w. rw (no_bytes s) (record { words = w.words; versions = w.versions; line = w.line; output = e });
+  }
 
-pub carried_none : {t : List ℤ} {l b : List ℕ} {p : Progress} → p.place ≡ 0 → Carried t l b p [] t l b p
-carried_none {b = b} h = record {
-  stands = λ s w. rw (no_bytes s) (record { words = w.words; versions = w.versions; line = w.line; output = ap (λ n. take n b) h });
-}
+  pub carried_none : p.replies.bytes ≡ [] → Carried p [] p
+  carried_none = replies_written p.replies
 
-pub carried_on : {t t' t'' : List ℤ} {l b l' b' l'' b'' : List ℕ} {p p' p'' : Progress} (front rest : List ℕ)
-    → Carried t l b p front t' l' b' p' → Carried t' l' b' p' rest t'' l'' b'' p'' → Carried t l b p (front ++ rest) t'' l'' b'' p''
-carried_on front rest a b = record { stands = λ s w. rw (written_between s front rest) at (b.stands _ (a.stands s w)) }
+  module _ {p' p'' : Progress size} where
+    -- bytes are taken, and their replies written
+    pub taken_and_written : (bytes : List ℕ) → ((s : LineSession) → StandsFor s p → StandsFor (after_bytes s bytes) p') → Carried p' [] p''
+        → Carried p bytes p''
+    taken_and_written bytes taken out = record { stands = λ s w. rw (no_bytes (after_bytes s bytes)) at (out.stands _ (taken s w)) }
 
--- and one read more
-pub read_on : {t t' t'' : List ℤ} {l b l' b' l'' b'' : List ℕ} {p p' p'' : Progress} {input : List ℕ} {taken : Bool}
-    → CarriedSome t l b p t' l' b' p' → CarriedInput t' l' b' p' input t'' l'' b'' p'' taken → CarriedSome t l b p t'' l'' b'' p''
-read_on {input = input} a r =
-    let handed = take r.count input in
-    record { bytes = a.bytes ++ handed; carried = carried_on a.bytes handed a.carried r.carried }
+    pub carried_on : (front rest : List ℕ) → Carried p front p' → Carried p' rest p'' → Carried p (front ++ rest) p''
+    carried_on front rest a b = record { stands = λ s w. rw (written_between s front rest) at (b.stands _ (a.stands s w)) }
+
+    -- and one read more
+    pub some_on : (bytes : List ℕ) → CarriedSome p p' → Carried p' bytes p'' → CarriedSome p p''
+    some_on bytes a b = record { bytes = a.bytes ++ bytes; carried = carried_on a.bytes bytes a.carried b }
+
+  -- a front of some input, where a write failed
+  pub front_of : {p' : Progress size} {input : List ℕ} (front rest : List ℕ) → input ≡ front ++ rest → Carried p front p' → CarriedFront p input p'
+  front_of front rest e a = record { count = length front; carried = rw (e, take-append_seam front rest) a }
+
+-- a part of what is left goes over to what was handed on
+pub part_over : (input front rest : List ℕ) (count : ℕ) → input ≡ front ++ rest → input ≡ (front ++ take count rest) ++ drop count rest
+part_over input front rest count e =
+    e ∙ ap (λ l. front ++ l) (sym (take-append-drop count rest)) ∙ sym (append_assoc front (take count rest) (drop count rest))
 
 -- at the end it is as if the replies had not been written out
-at_end_lem : (taken : Bool) (s : LineSession) → (at_end taken (written_out s)).words ≡ (at_end taken s).words
-at_end_lem true s = ap (λ w. w.words) (written_last s)
-at_end_lem false s = refl
+module _ {size : ℕ} {t : List ℤ} {p p' : Progress size} (w : StandsFor (fresh_session t) p) (a : CarriedSome p p') where
+  pub all_carried : {last end : Progress size} {ok : Bool} → ((s : LineSession) → StandsFor s p' → StandsFor (finished s) last) → Carried last [] end
+      → CarriedAll t end.table ok
+  all_carried finish out =
+      let s = after_bytes (fresh_session t) a.bytes in
+      record {
+        bytes = a.bytes;
+        taken = true;
+        all = λ e. refl;
+        words = (rw (no_bytes (finished (written_out s))) at ((out.stands _ (finish _ (a.carried.stands _ w))).words)) ∙ ap (λ u. u.words) (written_last s);
+      }
 
-pub all_carried : {t t' t'' : List ℤ} {l b l' b' : List ℕ} {p : Progress} {step : Step} → StandsFor (fresh_session t) t l b p
-    → CarriedSome t l b p t' l' b' step.progress → CarriedLast t' l' b' step t'' → CarriedAll t t''
-all_carried {t} {step = step} w a last = record {
-  bytes = a.bytes;
-  taken = step.taken;
-  words = last.words _ (a.carried.stands _ w) ∙ at_end_lem step.taken (after_bytes (fresh_session t) a.bytes);
-}
+  -- or a write failed before
+  pub cut_off : {ok : Bool} → ok ≡ false → CarriedAll t p'.table ok
+  cut_off failed = record { bytes = a.bytes; taken = false; all = λ e. clash e failed; words = (a.carried.stands _ w).words }

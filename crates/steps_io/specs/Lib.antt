@@ -1,4 +1,2 @@
-pub mod Ready
 pub mod Carried
-pub mod ReadyLaws
 pub mod CarriedLaws

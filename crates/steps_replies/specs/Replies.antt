@@ -1,64 +1,44 @@
--- What is answered to a line: a word and its numbers, a space before each, and a newline. RULES.md, The program steps. Assumes
+-- The line that answers a line: a word and its numbers, a space before each, and a newline. RULES.md, The program steps. Assumes
 -- nothing.
-use Rattle.std.specs.Prelude.{List, [], ◌∷◌, ◌++◌, ℕ, ℤ, pos}
-use Rattle.versions_runs.specs.declared.Numbered.{Numbered}
-use Rattle.versions_runs.specs.declared.Numbered.TheVariants as numbered
-use Rattle.reads.specs.declared.Seen.{Seen}
-use Rattle.reads.specs.declared.Seen.TheVariants as seen
-use Rattle.changes_rows.specs.declared.Placed.{Placed}
-use Rattle.changes_rows.specs.declared.Placed.TheVariants as placed
+use Rattle.std.specs.Prelude.{List, [], ◌∷◌, ◌++◌, ℕ, ℤ, pos, Option, Some, None, Result, Ok, Err, codes, flat_map}
+use Rattle.std.specs.Fmt.{signed_decimal}
+use Rattle.refusals.specs.declared.Refusal.{Refusal}
+use Rattle.refusals.specs.Refusals.{number}
+use Rattle.reads.specs.declared.Row.{Row}
 use Rattle.steps_commands.specs.Commands.{space_byte}
-use Rattle.steps_replies.specs.Decimals.{numeral}
 
 abbrev pub newline_byte : ℕ
 newline_byte = 10
 
--- the words: version, slot, row, none, refused, bad line
-abbrev pub version_word : List ℕ
-version_word = 118 ∷ 101 ∷ 114 ∷ 115 ∷ 105 ∷ 111 ∷ 110 ∷ []
+-- numbers by how each is written
+abbrev pub line_by : {A : Type 0} → (A → List ℕ) → List ℕ → List A → List ℕ
+line_by text word numbers = word ++ flat_map (λ n. space_byte ∷ text n) numbers ++ (newline_byte ∷ [])
 
-abbrev pub slot_word : List ℕ
-slot_word = 115 ∷ 108 ∷ 111 ∷ 116 ∷ []
-
-abbrev pub row_word : List ℕ
-row_word = 114 ∷ 111 ∷ 119 ∷ []
-
-abbrev pub none_word : List ℕ
-none_word = 110 ∷ 111 ∷ 110 ∷ 101 ∷ []
-
-abbrev pub refused_word : List ℕ
-refused_word = 114 ∷ 101 ∷ 102 ∷ 117 ∷ 115 ∷ 101 ∷ 100 ∷ []
-
-abbrev pub bad_line_words : List ℕ
-bad_line_words = 98 ∷ 97 ∷ 100 ∷ 32 ∷ 108 ∷ 105 ∷ 110 ∷ 101 ∷ []
-
--- a space and a number, for each
-abbrev pub spaced : List ℤ → List ℕ
-spaced [] = []
-spaced (z ∷ zs) = space_byte ∷ numeral z ++ spaced zs
-
+-- a number is written in decimal digits, a minus before them if it is below 0
 abbrev pub line_of : List ℕ → List ℤ → List ℕ
-line_of word numbers = word ++ spaced numbers ++ (newline_byte ∷ [])
-
-abbrev pub refused_line : ℕ → List ℕ
-refused_line n = line_of refused_word (pos n ∷ [])
+line_of word numbers = line_by signed_decimal word numbers
 
 -- B and C print version and the number
-unfoldable pub version_line : Numbered → List ℕ
-version_line (numbered.Version n) = line_of version_word (n ∷ [])
-version_line (numbered.Refused n) = refused_line n
+abbrev pub version_line : ℤ → List ℕ
+version_line n = line_of (codes "version") (n ∷ [])
 
--- I, U and D print slot and its number
-unfoldable pub slot_line : Placed → List ℕ
-slot_line (placed.InSlot k) = line_of slot_word (pos k ∷ [])
-slot_line (placed.Refused n) = refused_line n
+-- P and D print slot and its number
+abbrev pub slot_line : ℕ → List ℕ
+slot_line k = line_of (codes "slot") (pos k ∷ [])
 
 -- R prints row and two totals, or none
-unfoldable pub row_line : Seen → List ℕ
-row_line (seen.Row one two a b) = line_of row_word (a ∷ b ∷ [])
-row_line seen.NoRow = line_of none_word []
-row_line (seen.Refused n) = refused_line n
+abbrev pub row_line : Option Row → List ℕ
+row_line (Some row) = line_of (codes "row") (row.total1 ∷ row.total2 ∷ [])
+row_line None = line_of (codes "none") []
 
--- anything else: bad line
+-- a refusal prints refused and its number
+abbrev pub refused_line : Refusal → List ℕ
+refused_line refusal = line_of (codes "refused") (pos (number refusal) ∷ [])
+
+abbrev pub answer_line : {A : Type 0} → (A → List ℕ) → Result A Refusal → List ℕ
+answer_line line (Ok answer) = line answer
+answer_line line (Err refusal) = refused_line refusal
+
+-- anything else prints bad line
 abbrev pub bad_line : List ℕ
-bad_line = line_of bad_line_words []
+bad_line = line_of (codes "bad line") []

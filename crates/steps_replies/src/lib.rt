@@ -1,208 +1,120 @@
-// What the program `steps` answers to a line, written into a lent buffer: bytes put one after another, each run of them where the
-// run before it ends. All here are leaves for our other crates.
+// What the program `steps` answers to a line: each answer of the library as a line, and the text in which lines wait until they are
+// written out. All here are leaves for our other crates.
 #![tactic(auto)]
 
-ghost use Rattle.std.specs.Prelude.{◌≡◌, [], ◌∷◌, ◌+◌, ◌<◌, leb, pos, nat_abs};
-ghost use Rattle.steps_commands.specs.Numerals.{zero_byte};
-ghost use Rattle.steps_commands.specs.Commands.{space_byte};
-ghost use Rattle.steps_replies.specs.Decimals.{numeral};
-ghost use Rattle.steps_replies.specs.Replies.{line_of, refused_line, version_line, slot_line, row_line, bad_line};
-ghost use Rattle.steps_replies.specs.Written.{longest_line, Written};
-ghost use Rattle.steps_replies.specs.Puts.{Room, Put};
+ghost use Rattle.std.specs.Prelude.{◌≡◌, ℕ, ◌+◌, ◌*◌, ◌≤◌, List, ◌++◌, length};
+ghost use Rattle.arrayvec.specs.ArrayString.{array_string_len};
+ghost use Rattle.steps_replies.specs.Replies.{line_by, version_line, slot_line, row_line, answer_line, bad_line};
+ghost use Rattle.steps_replies.specs.Written.{longest_line, reply_bytes, has_room, written};
 
-use changes_rows::Placed;
-use reads::Seen;
-use steps_commands::{MINUS, SPACE, ZERO};
-use versions_runs::Numbered;
+use arrayvec::ArrayString;
+use itoa::{Buffer, Integer};
+use reads::Row;
+use refusals::Refusal;
 
 // The longest line that is answered: row, and two numbers of 20 bytes, a space before each, and a newline.
 pub const LONGEST_LINE: usize = 46;
 
+// How many bytes of lines wait at most.
+pub const REPLY_BYTES: usize = 65536;
+
 // What ends a line.
-pub const NEWLINE: u8 = 10;
+pub const NEWLINE: u8 = b'\n';
 
-fn put_byte(buffer: &mut [u8], place: usize, byte: u8) -> usize
-    requires { Room buffer.old place (byte ∷ []) }
-    ensures { Put buffer.old place (byte ∷ []) result buffer.new }
-{
-    buffer[place] = byte;
-    place + 1
+// The lines that wait to be written out.
+pub type Replies = ArrayString<REPLY_BYTES>;
+
+// An answer that is a line.
+pub trait Reply: Copy {
+    ghost line: { Self → List ℕ };
+
+    // The line, behind those that wait; there is room for the longest.
+    fn push_to(self, replies: &mut Replies)
+        requires { array_string_len replies.old + longest_line ≤ reply_bytes }
+        ensures { replies.new.bytes ≡ replies.old.bytes ++ line self };
 }
 
-fn put_text(buffer: &mut [u8], place: usize, word: &[u8]) -> usize
-    requires { Room buffer.old place word.now }
-    ensures { Put buffer.old place word.now result buffer.new }
-{
-    let mut next = place;
-    let mut i: usize = 0;
-    while i < word.len() {
-        next = put_byte(buffer, next, word[i]);
-        i += 1;
-    }
-    next
-}
+// The number of a version, as begin and commit answer it.
+impl Reply for i64 {
+    ghost line = { version_line };
 
-fn digit(n: u64) -> u8
-    requires { n < 10 }
-    ensures { result ≡ zero_byte + n }
-{
-    ZERO + n as u8
-}
-
-// The digits of a number, the highest first: one, or those of its tenth and one.
-fn put_digits(buffer: &mut [u8], place: usize, n: u64) -> usize
-    requires { Room buffer.old place (numeral (pos n)) }
-    ensures { Put buffer.old place (numeral (pos n)) result buffer.new }
-{
-    if n < 10 {
-        return put_byte(buffer, place, digit(n));
-    }
-    let next = put_digits(buffer, place, n / 10);
-    put_byte(buffer, next, digit(n % 10))
-}
-
-// A space and a number without a sign.
-fn put_natural(buffer: &mut [u8], place: usize, n: u64) -> usize
-    requires { Room buffer.old place (space_byte ∷ numeral (pos n)) }
-    ensures { Put buffer.old place (space_byte ∷ numeral (pos n)) result buffer.new }
-{
-    let next = put_byte(buffer, place, SPACE);
-    put_digits(buffer, next, n)
-}
-
-// A number without its sign; that of -2^63 is 2^63.
-fn magnitude(value: i64) -> u64
-    ensures { result ≡ nat_abs value }
-{
-    if value >= 0 {
-        return value as u64;
-    }
-    let ones = -1 - value;
-    ones as u64 + 1
-}
-
-// A space and a number.
-fn put_number(buffer: &mut [u8], place: usize, value: i64) -> usize
-    requires { Room buffer.old place (space_byte ∷ numeral value) }
-    ensures { Put buffer.old place (space_byte ∷ numeral value) result buffer.new }
-{
-    let natural = magnitude(value);
-    if value >= 0 {
-        return put_natural(buffer, place, natural);
-    }
-    let sign = put_byte(buffer, place, SPACE);
-    let next = put_byte(buffer, sign, MINUS);
-    put_digits(buffer, next, natural)
-}
-
-// A word alone.
-fn put_plain_line(buffer: &mut [u8], place: usize, word: &[u8]) -> usize
-    requires { Room buffer.old place (line_of word.now []) }
-    ensures { Put buffer.old place (line_of word.now []) result buffer.new }
-{
-    let next = put_text(buffer, place, word);
-    put_byte(buffer, next, NEWLINE)
-}
-
-// A word and a number without a sign.
-fn put_natural_line(buffer: &mut [u8], place: usize, word: &[u8], n: u64) -> usize
-    requires { Room buffer.old place (line_of word.now (pos n ∷ [])) }
-    ensures { Put buffer.old place (line_of word.now (pos n ∷ [])) result buffer.new }
-{
-    let number = put_text(buffer, place, word);
-    let next = put_natural(buffer, number, n);
-    put_byte(buffer, next, NEWLINE)
-}
-
-// A word and a number.
-fn put_number_line(buffer: &mut [u8], place: usize, word: &[u8], value: i64) -> usize
-    requires { Room buffer.old place (line_of word.now (value ∷ [])) }
-    ensures { Put buffer.old place (line_of word.now (value ∷ [])) result buffer.new }
-{
-    let number = put_text(buffer, place, word);
-    let next = put_number(buffer, number, value);
-    put_byte(buffer, next, NEWLINE)
-}
-
-// A word and two numbers.
-fn put_numbers_line(buffer: &mut [u8], place: usize, word: &[u8], one: i64, two: i64) -> usize
-    requires { Room buffer.old place (line_of word.now (one ∷ two ∷ [])) }
-    ensures { Put buffer.old place (line_of word.now (one ∷ two ∷ [])) result buffer.new }
-{
-    let first = put_text(buffer, place, word);
-    let second = put_number(buffer, first, one);
-    let next = put_number(buffer, second, two);
-    put_byte(buffer, next, NEWLINE)
-}
-
-fn put_refused_line(buffer: &mut [u8], place: usize, refusal: u32) -> usize
-    requires { Room buffer.old place (refused_line refusal) }
-    ensures { Put buffer.old place (refused_line refusal) result buffer.new }
-{
-    put_natural_line(buffer, place, b"refused", refusal as u64)
-}
-
-// Whether the longest line fits between a place and the end.
-fn has_room(length: usize, place: usize) -> bool
-    ensures { result ≡ leb (place + longest_line) length }
-{
-    if length < LONGEST_LINE {
-        return false;
-    }
-    place <= length - LONGEST_LINE
-}
-
-// The answer to B or C, written into a buffer from a place on; answers the place after it, or the place itself without room.
-pub fn write_version_line(buffer: &mut [u8], place: usize, answer: Numbered) -> usize
-    ensures { Written buffer.old place (version_line answer) result buffer.new }
-{
-    if !has_room(buffer.len(), place) {
-        return place;
-    }
-    match answer {
-        Numbered::Version(n) => put_number_line(buffer, place, b"version", n),
-        Numbered::Refused(n) => put_refused_line(buffer, place, n),
+    fn push_to(self, replies: &mut Replies) {
+        push_line(replies, "version", &[self]);
     }
 }
 
-// The answer to I, U or D.
-pub fn write_slot_line(buffer: &mut [u8], place: usize, answer: Placed) -> usize
-    ensures { Written buffer.old place (slot_line answer) result buffer.new }
-{
-    if !has_room(buffer.len(), place) {
-        return place;
-    }
-    match answer {
-        Placed::InSlot(k) => put_natural_line(buffer, place, b"slot", k as u64),
-        Placed::Refused(n) => put_refused_line(buffer, place, n),
+// The number of a slot, as a change answers it.
+impl Reply for usize {
+    ghost line = { slot_line };
+
+    fn push_to(self, replies: &mut Replies) {
+        push_line(replies, "slot", &[self]);
     }
 }
 
-// The answer to R.
-pub fn write_row_line(buffer: &mut [u8], place: usize, answer: Seen) -> usize
-    ensures { Written buffer.old place (row_line answer) result buffer.new }
-{
-    if !has_room(buffer.len(), place) {
-        return place;
-    }
-    match answer {
-        Seen::Row {
-            key1: _,
-            key2: _,
-            total1,
-            total2,
-        } => put_numbers_line(buffer, place, b"row", total1, total2),
-        Seen::NoRow => put_plain_line(buffer, place, b"none"),
-        Seen::Refused(n) => put_refused_line(buffer, place, n),
+// A row or none, as a read answers it.
+impl Reply for Option<Row> {
+    ghost line = { row_line };
+
+    fn push_to(self, replies: &mut Replies) {
+        match self {
+            Some(row) => push_line(replies, "row", &[row.total1, row.total2]),
+            None => push_line::<i64>(replies, "none", &[]),
+        }
     }
 }
 
-// The answer to anything else.
-pub fn write_bad_line(buffer: &mut [u8], place: usize) -> usize
-    ensures { Written buffer.old place bad_line result buffer.new }
-{
-    if !has_room(buffer.len(), place) {
-        return place;
+// What the library answers, or its refusal.
+impl<A: Reply> Reply for Result<A, Refusal> {
+    ghost line = { answer_line A.line };
+
+    fn push_to(self, replies: &mut Replies) {
+        match self {
+            Ok(answer) => answer.push_to(replies),
+            Err(refusal) => push_line(replies, "refused", &[refusal.number()]),
+        }
     }
-    put_plain_line(buffer, place, b"bad line")
+}
+
+// What is answered to a line that asks nothing.
+#[derive(Clone, Copy)]
+pub struct BadLine;
+
+impl Reply for BadLine {
+    ghost line = { λ _. bad_line };
+
+    fn push_to(self, replies: &mut Replies) {
+        push_line::<i64>(replies, "bad line", &[]);
+    }
+}
+
+// A word and numbers, a space before each, and a newline.
+fn push_line<I: Integer>(replies: &mut Replies, word: &str, numbers: &[I])
+    requires { array_string_len replies.old + length word.now + length numbers.now * (I.MAX_STR_LEN + 1) + 1 ≤ reply_bytes }
+    ensures { replies.new.bytes ≡ replies.old.bytes ++ line_by I.text word.now numbers.now }
+{
+    let mut digits = Buffer::new();
+    replies.push_str(word);
+    for number in numbers {
+        replies.push_str(" ");
+        replies.push_str(digits.format(*number));
+    }
+    replies.push_str("\n");
+}
+
+// Whether the longest line fits behind those that wait.
+pub fn has_room(replies: &Replies) -> bool
+    ensures { result ≡ has_room replies.now.bytes }
+{
+    replies.remaining_capacity() >= LONGEST_LINE
+}
+
+// The line of an answer behind those that wait, or nothing where the longest has no room.
+#[tactic(auto, unfolding(crate::specs::Written::written))]
+pub fn write_line<A: Reply>(replies: &mut Replies, answer: A)
+    ensures { replies.new.bytes ≡ written replies.old.bytes (A.line answer) }
+{
+    if has_room(replies) {
+        answer.push_to(replies);
+    }
 }

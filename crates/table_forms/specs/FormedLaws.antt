@@ -4,7 +4,7 @@ use Rattle.std.proofs.Common.{ap, ap₂, ◌∙◌, arith, leb-true}
 use Rattle.std.proofs.Math.Bool.{or-true, or-false, and-true}
 use Rattle.std.specs.Int.Signed.{le_z}
 use Rattle.std.proofs.lemmas.Bool.{eqb-false}
-use Rattle.laws.specs.TestLaws.{all-at, all_no, by_test, clash, not_no}
+use Rattle.laws.specs.TestLaws.{all-at, all_no, by_test, clash, not_no, not_yes}
 use Rattle.laws.specs.Tests.{all}
 use Rattle.laws.specs.OrderLaws.{eq_z_true, from_to_lem, le_z_trans}
 use Rattle.laws.specs.Order.{eq_z, from_to}
@@ -101,6 +101,10 @@ pub none-broken : (t : List ℤ) (v : VersionRecord) → any_broken t v ≡ fals
 unfolding any_broken
 none-broken t v h k l = not_no (none_passes (λ j. broken (slot_at t j) v) (slots t) h k l)
 
+-- and where one is broken, some is
+pub one_broken : (t : List ℤ) (v : VersionRecord) (k : ℕ) → k < slots t → broken (slot_at t k) v ≡ true → any_broken t v ≡ true
+one_broken t v k l b = by_test (any_broken t v) (λ y. y) (λ n. clash (none-broken t v n k l) (not_yes b))
+
 -- ---- a used slot that is not live was deleted
 three : (z : ℤ) → from_to insert_operation delete_operation z ≡ true → eq_z z insert_operation ≡ false → eq_z z update_operation ≡ false → z ≡ delete_operation
 three (pos n) r a b =
@@ -122,6 +126,9 @@ formed_later x v w l h =
     used_formed (search (ap₂ ◌&&◌ r.low (le_z_trans x.run (last_run v) (last_run w) r.high l))))
 
 -- ---- where each slot is well formed, none is broken
-pub all_formed : (t : List ℤ) (v : VersionRecord) → ((k : ℕ) → well_formed (slot_at t k) v ≡ true) → any_broken t v ≡ false
+pub each_formed : (t : List ℤ) (v : VersionRecord) → ((k : ℕ) → k < slots t → well_formed (slot_at t k) v ≡ true) → any_broken t v ≡ false
 unfolding any_broken
-all_formed t v f = all_fail _ (slots t) (λ k l. ap not (f k))
+each_formed t v f = all_fail _ (slots t) (λ k l. ap not (f k l))
+
+pub all_formed : (t : List ℤ) (v : VersionRecord) → ((k : ℕ) → well_formed (slot_at t k) v ≡ true) → any_broken t v ≡ false
+all_formed t v f = each_formed t v (λ k l. f k)

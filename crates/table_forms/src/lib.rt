@@ -7,7 +7,7 @@ ghost use Rattle.std.specs.Prelude.{◌≡◌, false, not, ◌||◌, ◌&&◌, [
 ghost use Rattle.laws.specs.Order.{eq_z, from_to};
 ghost use Rattle.laws.specs.Tests.{all};
 ghost use Rattle.versions.specs.Record.{bad_record, last_run};
-ghost use Rattle.table_forms.specs.DecisionTables.{cell_at};
+ghost use Rattle.table_forms.specs.DecisionTables.{in_row, cell_at};
 ghost use Rattle.table_forms.specs.Operations.{insert_operation, delete_operation, column, live, live_word};
 ghost use Rattle.table_forms.specs.Totals.{lawful, reported, unlawful};
 ghost use Rattle.table_forms.specs.Formed.{all_zeros, used_well, well_formed, broken};
@@ -41,6 +41,19 @@ pub struct Columns<C> {
     pub delete: C,
 }
 
+impl<C: Copy> Columns<C> {
+    fn at(self, operation: Operation) -> C
+        ensures { result ≡ in_row self operation }
+    {
+        match operation {
+            Operation::Empty => self.empty,
+            Operation::Insert => self.insert,
+            Operation::Update => self.update,
+            Operation::Delete => self.delete,
+        }
+    }
+}
+
 // A decision table: the row where its test holds, and the row where it fails.
 #[derive(Clone, Copy)]
 pub struct DecisionTable<C> {
@@ -49,15 +62,15 @@ pub struct DecisionTable<C> {
 }
 
 impl<C: Copy> DecisionTable<C> {
+    // The cell by the result of the test and an operation. Each branch asks its own row: of a constant table the compiler makes that
+    // a choice between two numbers.
     pub fn cell(self, holds: bool, operation: Operation) -> C
         ensures { result ≡ cell_at self holds operation }
     {
-        let row = if holds { self.holds } else { self.fails };
-        match operation {
-            Operation::Empty => row.empty,
-            Operation::Insert => row.insert,
-            Operation::Update => row.update,
-            Operation::Delete => row.delete,
+        if holds {
+            self.holds.at(operation)
+        } else {
+            self.fails.at(operation)
         }
     }
 }

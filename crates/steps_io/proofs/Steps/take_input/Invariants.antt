@@ -1,0 +1,16 @@
+-- `steps_io::Steps::take_input`: the loop's invariant is that the bytes before `rest` are handed on, and a session that stood stands
+-- where they led it, with no reply that waits. The measure is how many are left. Assumes nothing.
+use Rattle.std.proofs.Common.{◌≡◌, List, [], ◌++◌, ℕ, length}
+use Rattle.steps_io.specs.Carried.{Carried}
+use Rattle.steps_io.proofs.Steps.take_input.Given as goal
+
+abbrev pub invariant-loop-rest : goal.invariant-loop-rest
+invariant-loop-rest g l = record {
+  front : List ℕ;
+  whole : l.input ≡ front ++ l.rest;
+  ready : l.self.progress.replies.bytes ≡ [];
+  carried : Carried l.fn.self.progress front l.self.progress;
+}
+
+abbrev pub decreases-loop-rest : goal.decreases-loop-rest
+decreases-loop-rest g l = length l.rest

@@ -1,7 +1,0 @@
--- `steps_io::answer_all`: the fresh session stands at first, and is carried over all reads and then over the last line
--- (`all_carried`). Assumes nothing.
-use Rattle.steps_io.specs.CarriedLaws.{all_carried}
-use Rattle.steps_io.proofs.answer_all.Goals as goal
-
-pub returns : goal.returns
-returns g c = all_carried (c.fresh.ensures.stands_for _ _ _) c.take_all-all.ensures.carried_some c.take_last.ensures
