@@ -2,7 +2,6 @@
 -- answer, record, block and every table word. Each contract gives its outcome as a function of the inputs, so this follows at
 -- once. Assumes nothing.
 use Rattle.std.specs.Prelude.{◌≡◌, List, ℕ, ℤ, Option, Result}
-use Rattle.std.proofs.Common.{sym, ◌∙◌}
 use Rattle.refusals.specs.declared.Refusal.{Refusal}
 use Rattle.versions.specs.declared.VersionRecord.{VersionRecord}
 use Rattle.versions_runs.specs.declared.Turned.{Turned}
@@ -21,6 +20,7 @@ use Rattle.changes.specs.Put as put
 use Rattle.changes.specs.Delete.{DeleteContract}
 use Rattle.changes.specs.Delete as delete
 use Rattle.changes_roll_back.specs.RollBack.{RollBackContract}
+use Rattle.changes_roll_back.specs.RollBackLaws as roll_back
 use Rattle.blocks.specs.declared.Header.{Header}
 use Rattle.blocks.specs.SaveHeader.{SaveHeaderContract}
 use Rattle.blocks.specs.SaveHeader as save_header
@@ -51,8 +51,8 @@ pub record Tight : Type 0 where
   pub of_delete : {t u u' : List ℤ} {v : VersionRecord} {key1 key2 : ℤ} {r r' : Result ℕ Refusal}
       → DeleteContract t v key1 key2 r u → DeleteContract t v key1 key2 r' u' → (r ≡ r') × (u ≡ u')
   -- a roll back leaves both
-  pub of_roll_back : {t u u' : List ℤ} {v v' v'' : VersionRecord} {r r' : Result ℤ Refusal}
-      → RollBackContract t v r u v' → RollBackContract t v r' u' v'' → (r ≡ r') × (v' ≡ v'') × (u ≡ u')
+  pub of_roll_back : {t u u' : List ℤ} {v w w' : VersionRecord} {r r' : Result ℤ Refusal}
+      → RollBackContract t v r u w → RollBackContract t v r' u' w' → (r ≡ r') × (u ≡ u') × (w ≡ w')
   pub of_roll_back_by_value : {t u u' : List ℤ} {v : VersionRecord} {r r' : Turned}
       → RollBackContract t v r.answer u r.versions → RollBackContract t v r'.answer u' r'.versions → (r ≡ r') × (u ≡ u')
   -- a save answers the bytes of the block
@@ -78,8 +78,8 @@ tight = record {
   of_roll_up = roll_up.one_outcome;
   of_put = put.one_outcome;
   of_delete = delete.one_outcome;
-  of_roll_back = λ a b. (a.answer ∙ sym b.answer, a.versions ∙ sym b.versions, a.words ∙ sym b.words);
-  of_roll_back_by_value = λ a b. (one_turned (a.answer ∙ sym b.answer) (a.versions ∙ sym b.versions), a.words ∙ sym b.words);
+  of_roll_back = λ a b. let e = roll_back.one_outcome a b in (e.0, e.1.0, e.1.1);
+  of_roll_back_by_value = λ a b. let e = roll_back.one_outcome a b in (one_turned e.0 e.1.1, e.1.0);
   of_save_header = save_header.one_outcome;
   of_save_block = save_block.one_outcome;
   of_load_header = load_header.one_outcome;
