@@ -161,7 +161,8 @@ pub fn probe_save_header(
     ensures block_after { block.new ≡ block_after save_header (lent table.now record_words.now block.old) }
 {
     let saved = reader::save_header(table, records::version_of(record_words));
-    *block = saved.block;
+    let bytes = saved.block;
+    *block = bytes;
     numbers::put_answer(out, saved.answer);
 }
 
@@ -177,7 +178,8 @@ pub fn probe_save_block(
     ensures block_after { block.new ≡ block_after (save_block number) (lent table.now record_words.now block.old) }
 {
     let saved = reader::save_block(table, records::version_of(record_words), number);
-    *block = saved.block;
+    let bytes = saved.block;
+    *block = bytes;
     numbers::put_answer(out, saved.answer);
 }
 
