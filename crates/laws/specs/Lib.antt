@@ -5,6 +5,7 @@ pub mod FirstLaws
 pub mod Below
 pub mod Lowest
 pub mod LowestLaws
+pub mod LowestRanges
 pub mod Order
 pub mod OrderLaws
 pub mod Bits

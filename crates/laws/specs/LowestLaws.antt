@@ -1,11 +1,11 @@
--- The lowest index below a bound that passes a test, or the bound where none does: that it is so, that nothing else is, that
--- the test may be replaced by one that agrees below the bound, and one step of a search for it; and that some index passes.
--- Assumes nothing.
-use Rattle.std.specs.Prelude.{◌≡◌, refl, Bool, true, false, ℕ, zero, suc, ◌+◌, ◌≤◌, ◌<◌}
-use Rattle.std.proofs.Common.{ltb-true, lt-ltb, suc-le-suc, zero-le, le_of_suc-le-suc, not-suc-le-zero, lt_of_le_of_lt, arith}
+-- The lowest index below a bound that passes a test, or the bound where none does: that it is so, that nothing else is, and the steps
+-- of a search for it; that some index passes; and what a search answers that gives a place or none. Assumes nothing.
+use Rattle.std.specs.Prelude.{◌≡◌, refl, Bool, true, false, Option, Some, None, ℕ, zero, suc, ◌+◌, ◌≤◌, ◌<◌}
+use Rattle.std.proofs.Common.{ltb-true, lt-ltb, suc-le-suc, zero-le, le_of_suc-le-suc, not-suc-le-zero, lt_of_lt_of_le, lt_of_le_of_lt, sym, ◌∙◌, arith}
+use Rattle.std.proofs.lemmas.Bool.Decides.{nat_tests}
 use Rattle.laws.specs.TestLaws.{by_test, by_order, clash}
-use Rattle.laws.specs.Below.{one_more}
-use Rattle.laws.specs.Lowest.{lowest, Lowest, some}
+use Rattle.laws.specs.Below.{one_more, four_more}
+use Rattle.laws.specs.Lowest.{lowest, Lowest, below, NoneBelow, EachOfFour, some}
 
 lower : (p : ℕ → Bool) (n r : ℕ) → p zero ≡ false → Lowest (λ k. p (suc k)) n r → Lowest p (suc n) (suc r)
 lower p n r h l = record {
@@ -36,9 +36,12 @@ lowest_only {p} {n} {a} {b} x y =
 pub lowest_le : {p : ℕ → Bool} {n r k : ℕ} → Lowest p n r → p k ≡ true → r ≤ k
 lowest_le {p} {n} {r} {k} l h = by_order k r (λ b. clash h (l.below k b)) (λ g. g)
 
--- a search passes one more index
-pub below_next : {p : ℕ → Bool} {k : ℕ} → ((j : ℕ) → j < k → p j ≡ false) → p k ≡ false → (j : ℕ) → j < k + 1 → p j ≡ false
+-- a search passes one more index, or four more
+pub below_next : {p : ℕ → Bool} {k : ℕ} → NoneBelow p k → p k ≡ false → NoneBelow p (k + 1)
 below_next {p} = one_more {P = λ j. p j ≡ false}
+
+pub below_four : {p : ℕ → Bool} {P : ℕ → Type 0} {k : ℕ} → ((j : ℕ) → P j → p j ≡ false) → EachOfFour P k → NoneBelow p k → NoneBelow p (k + 4)
+below_four {p} fails f b = four_more {P = λ j. p j ≡ false} b (fails _ f.first) (fails _ f.second) (fails _ f.third) (fails _ f.fourth)
 
 -- one that passes is enough
 pub some_yes : (p : ℕ → Bool) (n k : ℕ) → k < n → p k ≡ true → some p n ≡ true
@@ -51,15 +54,42 @@ unfolding some
 some-lowest p n h = let l = ltb-true (lowest p n) n h in (l, (lowest_is p n).passes l)
 
 -- where none passes, each fails; and the other way round
-pub none_passes : (p : ℕ → Bool) (n : ℕ) → some p n ≡ false → (k : ℕ) → k < n → p k ≡ false
+pub none_passes : (p : ℕ → Bool) (n : ℕ) → some p n ≡ false → NoneBelow p n
 none_passes p n h k l = by_test (p k) (λ y. clash (some_yes p n k l y) h) (λ m. m)
 
-pub all_fail : (p : ℕ → Bool) (n : ℕ) → ((k : ℕ) → k < n → p k ≡ false) → some p n ≡ false
+pub all_fail : (p : ℕ → Bool) (n : ℕ) → NoneBelow p n → some p n ≡ false
 all_fail p n f = by_test (some p n) (λ y. let s = some-lowest p n y in clash s.1 (f (lowest p n) s.0)) (λ m. m)
 
 -- ---- a search that has passed the indices below k ends at one that passes, or at the bound
-pub found : {p : ℕ → Bool} {n k : ℕ} → ((j : ℕ) → j < k → p j ≡ false) → k < n → p k ≡ true → Lowest p n k
+pub found : {p : ℕ → Bool} {n k : ℕ} → NoneBelow p k → k < n → p k ≡ true → Lowest p n k
 found b l h = record { within = omega arith; passes = λ i. h; below = b }
 
-pub exhausted : {p : ℕ → Bool} {n k : ℕ} → ((j : ℕ) → j < k → p j ≡ false) → n ≤ k → Lowest p n n
+pub exhausted : {p : ℕ → Bool} {n k : ℕ} → NoneBelow p k → n ≤ k → Lowest p n n
 exhausted {n} b l = record { within = omega arith; passes = λ i. absurd (omega arith); below = λ j i. b j (omega arith) }
+
+-- ---- a place below an end, or none: what the answer tells
+pub below-some : (n m : ℕ) {k : ℕ} → Some k ≡ below n m → (k < n) × (m ≡ k)
+below-some n m e = grind (arith, nat_tests)
+
+pub below-none : (n m : ℕ) → None ≡ below n m → n ≤ m
+below-none n m e = grind (arith, nat_tests)
+
+-- ---- a search that answers a place, or none: it found the lowest, or passed all
+pub answer_found : {p : ℕ → Bool} {n k : ℕ} → NoneBelow p k → k < n → p k ≡ true → Some k ≡ below n (lowest p n)
+answer_found {p} {n} {k} b l h = let e : k ≡ lowest p n = lowest_only (found b l h) (lowest_is p n) in grind (arith, nat_tests)
+
+pub answer_first : (p : ℕ → Bool) (n : ℕ) → 0 < n → p 0 ≡ true → Some 0 ≡ below n (lowest p n)
+answer_first p n l h = answer_found (λ j i. absurd (omega arith)) l h
+
+pub answer_none : (p : ℕ → Bool) (n : ℕ) → NoneBelow p n → None ≡ below n (lowest p n)
+answer_none p n b = let e : n ≡ lowest p n = lowest_only (exhausted b (omega arith)) (lowest_is p n) in grind (arith, nat_tests)
+
+-- what it found below an end is found below a later one, and where it found none none is
+pub found_later : (p : ℕ → Bool) (m : ℕ) {n k : ℕ} {r : Option ℕ} → m ≤ n → r ≡ below m (lowest p m) → r ≡ Some k → Some k ≡ below n (lowest p n)
+found_later p m {n} {k} l e f =
+    let s = below-some m (lowest p m) (sym f ∙ e) in
+    let here = rw s.1 at (lowest_is p m) in
+    answer_found here.below (lt_of_lt_of_le s.0 l) (here.passes s.0)
+
+pub passed_all : (p : ℕ → Bool) (n : ℕ) {r : Option ℕ} → r ≡ below n (lowest p n) → r ≡ None → NoneBelow p n
+passed_all p n e f j l = (lowest_is p n).below j (lt_of_lt_of_le l (below-none n (lowest p n) (sym f ∙ e)))

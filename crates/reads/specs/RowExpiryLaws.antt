@@ -1,9 +1,10 @@
 -- The paper's expiry test of a row (RULES.md, Reads) never applies after 4 and 6: the run number of a slot that is not broken is
 -- at most the last run's, and an open session is at least the number before that (`open_reaches`). And by itself it isn't enough:
 -- one table of zeros shows it. Assumes nothing.
-use Rattle.std.specs.Prelude.{◌≡◌, refl, true, false, List, ℕ, ℤ, pos}
+use Rattle.std.specs.Prelude.{◌≡◌, refl, true, false, List, ℕ, ℤ, pos, Err}
 use Rattle.std.proofs.Common.{arith}
 use Rattle.std.specs.Int.Signed.{le_z}
+use Rattle.refusals.specs.declared.Refusal.TheVariants as refusal
 use Rattle.laws.specs.TestLaws.{not_no}
 use Rattle.laws.specs.OrderLaws.{from_to_lem, le_z_trans}
 use Rattle.versions.specs.declared.VersionRecord.{VersionRecord}
@@ -16,7 +17,6 @@ use Rattle.table.specs.Slots.{slot_at, fresh_table}
 use Rattle.table.specs.SlotLaws.{fresh_shape, fresh_slot}
 use Rattle.table_forms.specs.Formed.{broken}
 use Rattle.table_forms.specs.FormedLaws.{formed_cases}
-use Rattle.reads.specs.declared.Seen.TheVariants.{Refused}
 use Rattle.reads.specs.ReadSlot.{read_slot_answer}
 use Rattle.reads.specs.ReadOutcomes.{slot-expired}
 use Rattle.reads.specs.RowExpiry.{row_expired}
@@ -36,7 +36,7 @@ never_row_expired v s x k b o f = open_reaches v s x.run k b o (run_within v x k
 -- zeros, as when run 3 has deleted the row that the session is to read, and run 4 has taken its slot for another key and
 -- deleted that row too. Each read of a slot is refused 4, and the test of a row applies to none
 pub record Traceless (t : List ℤ) (v : VersionRecord) (s : ℤ) : Type 0 where
-  pub refused : (k : ℕ) → read_slot_answer t v s k ≡ Refused 4
+  pub refused : (k : ℕ) → read_slot_answer t v s k ≡ Err refusal.Expired
   pub untold : (k : ℕ) → row_expired s (slot_at t k) ≡ false
 
 abbrev pub in_run4 : VersionRecord

@@ -1,5 +1,5 @@
 // What a session reads: Table 1, and the reads of a slot and of a key. Each read begins with the tests of its session, and walks
-// the table at most once. `test_session` is a leaf for our other crates.
+// the table at most once. `show` and `test_session` are leaves for our other crates.
 #![tactic(auto)]
 
 ghost use Rattle.std.specs.Prelude.{◌≡◌, false, [], ◌∷◌};
@@ -7,13 +7,14 @@ ghost use Rattle.refusals.specs.declared.Refusal.TheVariants.{BrokenSlot};
 ghost use Rattle.laws.specs.First.{first, unless};
 ghost use Rattle.versions.specs.Record.{bad_record};
 ghost use Rattle.table_forms.specs.Formed.{broken};
-ghost use Rattle.reads.specs.Table1.{shown};
+ghost use Rattle.reads.specs.Table1.{read_cell, shown};
 ghost use Rattle.reads.specs.SessionTests.{session_refusal};
 ghost use Rattle.reads.specs.ReadSlot.{ReadSlotContract};
 ghost use Rattle.reads.specs.ReadKey.{ReadKeyContract};
 
 use refusals::Refusal;
 use table::Slot;
+use table_forms::{Columns, DecisionTable};
 use versions::VersionRecord;
 
 // A row: its two key words and its two totals.
@@ -25,53 +26,59 @@ pub struct Row {
     pub total2: i64,
 }
 
-// The cells of Table 1.
-const IGNORE_TUPLE: u8 = 0;
+// A cell of Table 1: what a session reads of a slot.
+#[derive(Clone, Copy, Debug, PartialEq, Eq)]
+pub enum Cell {
+    IgnoreTuple,
+    ReadCurrent,
+    ReadOld,
+}
 
-const READ_CURRENT: u8 = 1;
+// Table 1: the sessions from the slot's run number on, and those before it.
+const TABLE_1: DecisionTable<Cell> = DecisionTable {
+    holds: Columns {
+        empty: Cell::IgnoreTuple,
+        insert: Cell::ReadCurrent,
+        update: Cell::ReadCurrent,
+        delete: Cell::IgnoreTuple,
+    },
+    fails: Columns {
+        empty: Cell::IgnoreTuple,
+        insert: Cell::IgnoreTuple,
+        update: Cell::ReadOld,
+        delete: Cell::ReadOld,
+    },
+};
 
-const READ_OLD: u8 = 2;
+// What a cell says to read of a slot: a row, or none.
+#[tactic(auto, using(laws::specs::Bits::plain))]
+fn read_cell(cell: Cell, x: Slot) -> Option<Row>
+    ensures { result ≡ read_cell cell x }
+{
+    let (total1, total2) = match cell {
+        Cell::IgnoreTuple => return None,
+        Cell::ReadCurrent => (x.current1, x.current2),
+        Cell::ReadOld => (x.old1, x.old2),
+    };
+    Some(Row {
+        key1: x.key1,
+        key2: x.key2,
+        total1,
+        total2,
+    })
+}
 
-// Table 1: a row for the sessions from the slot's run number on, then a row for those before it; in each the four columns.
-const TABLE_1: [u8; 8] = [
-    IGNORE_TUPLE, // empty, from its run on
-    READ_CURRENT, // insert, from its run on
-    READ_CURRENT, // update, from its run on
-    IGNORE_TUPLE, // delete, from its run on
-    IGNORE_TUPLE, // empty, before its run
-    IGNORE_TUPLE, // insert, before its run
-    READ_OLD, // update, before its run
-    READ_OLD, // delete, before its run
-];
-
-// What a session sees of a slot: a row, or none.
-fn show(x: Slot, session: i64) -> Option<Row>
+// What a session sees of a slot.
+#[tactic(auto, using(laws::specs::Bits::plain), unfolding(crate::specs::Table1::shown))]
+pub fn show(x: Slot, session: i64) -> Option<Row>
     ensures { result ≡ shown session x }
 {
-    let run = x.run;
-    let key1 = x.key1;
-    let key2 = x.key2;
-    let cell = table_forms::cell_of(TABLE_1, run <= session, table_forms::column_of(x));
-    if cell == READ_CURRENT {
-        return Some(Row {
-            key1,
-            key2,
-            total1: x.current1,
-            total2: x.current2,
-        });
-    }
-    if cell == READ_OLD {
-        return Some(Row {
-            key1,
-            key2,
-            total1: x.old1,
-            total2: x.old2,
-        });
-    }
-    None
+    let cell = TABLE_1.cell(x.run <= session, table_forms::column_of(x));
+    read_cell(cell, x)
 }
 
 // The tests that begin every read's list, asked one by one.
+#[tactic(auto, using(laws::specs::Bits::plain), unfolding(crate::specs::SessionTests::session_refusal, laws::specs::First::first))]
 fn asked_one_by_one(table: &[i64], versions: VersionRecord, session: i64) -> Result<(), Refusal>
     ensures { result ≡ unless (session_refusal table.now versions session) tt }
 {
@@ -95,6 +102,7 @@ fn asked_one_by_one(table: &[i64], versions: VersionRecord, session: i64) -> Res
 
 // The same. A session that is plainly open, of a table of a lawful shape, is let through by one expression, so that a read that
 // nothing refuses has few branches.
+#[tactic(auto, using(laws::specs::Bits::plain, crate::specs::OpenLaws::open_passes))]
 pub fn test_session(table: &[i64], versions: VersionRecord, session: i64) -> Result<(), Refusal>
     ensures { result ≡ unless (session_refusal table.now versions session) tt }
 {
@@ -105,6 +113,7 @@ pub fn test_session(table: &[i64], versions: VersionRecord, session: i64) -> Res
 }
 
 // What a session is answered of a slot: refusal 6, or what it sees.
+#[tactic(auto, using(laws::specs::Bits::plain), unfolding(laws::specs::First::first))]
 fn show_formed(x: Slot, versions: VersionRecord, session: i64) -> Result<Option<Row>, Refusal>
     requires { bad_record versions ≡ false }
     ensures { result ≡ unless (first ((broken x versions, BrokenSlot) ∷ [])) (shown session x) }
@@ -116,6 +125,7 @@ fn show_formed(x: Slot, versions: VersionRecord, session: i64) -> Result<Option<
 }
 
 // Read a slot.
+#[tactic(auto, using(laws::specs::Bits::plain, crate::specs::OpenLaws::opened), unfolding(crate::specs::ReadSlot::read_slot_refusal, crate::specs::ReadSlot::read_slot_answer, laws::specs::First::first))]
 pub fn read_slot(
     table: &[i64],
     versions: VersionRecord,
@@ -132,6 +142,7 @@ pub fn read_slot(
 }
 
 // Read a key.
+#[tactic(auto, using(laws::specs::Bits::plain, crate::specs::OpenLaws::opened))]
 pub fn read_key(
     table: &[i64],
     versions: VersionRecord,
@@ -142,8 +153,8 @@ pub fn read_key(
     ensures { ReadKeyContract table.now versions session key1 key2 result }
 {
     test_session(table, versions, session)?;
-    let Some(k) = table_keys::key_slot(table, key1, key2) else {
-        return Ok(None);
-    };
-    show_formed(table::slot_at(table, k), versions, session)
+    match table_keys::key_slot(table, key1, key2) {
+        Some(k) => show_formed(table::slot_at(table, k), versions, session),
+        None => Ok(None),
+    }
 }

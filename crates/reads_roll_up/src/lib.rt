@@ -10,8 +10,7 @@ ghost use Rattle.reads_roll_up.specs.RollUpBounds.{LawfulRow, Within, Bounded};
 ghost use Rattle.reads_roll_up.specs.RollUp.{with_total, counted, tallied, RollUpContract};
 
 use refusals::Refusal;
-use table::{CURRENT1, CURRENT2, KEY1, OLD1, OLD2, OPERATION, RUN, SLOT_WORDS};
-use table_forms::{DELETE, UPDATE};
+use table::{KEY1, SLOT_WORDS};
 use versions::VersionRecord;
 
 // What a roll-up answers: the count of rows, how many of them reported each total, and the sums of what they reported.
@@ -40,6 +39,7 @@ pub struct Tally {
 }
 
 // What was reported of a total, with a total more.
+#[tactic(auto, using(laws::specs::Bits::plain, crate::specs::RollUpLaws::sum_so_far, crate::specs::RollUpLaws::sum_with))]
 fn with_total(earlier: Reported, total: i64) -> Reported
     requires lawful_total { lawful total ≡ true }
     requires within { Within (most_slots - 1) earlier }
@@ -69,8 +69,9 @@ fn count_row(tally: Tally, total1: i64, total2: i64) -> Tally
     }
 }
 
-// The tally with what a session sees of the slot at a place: a row with that first key word counts. Table 1 is asked by comparison
-// here, and here alone: an indexed table is copied to the stack in each turn of a loop.
+// The tally with what a session sees of the slot at a place: a row with that first key word counts. The word is asked of the slot where
+// it stands, and first: most slots have another.
+#[tactic(auto, using(laws::specs::Bits::plain, laws::specs::Bits::is, laws::specs::Bits::isnt, table::specs::SlotLaws::key1_at, crate::specs::RollUpLaws::tallied_other, crate::specs::RollUpLaws::tallied_own))]
 fn tally_slot(tally: Tally, table: &[i64], k: usize, session: i64, key1: i64) -> Tally
     requires lawful_table { bad_table table.now ≡ false }
     requires in_table { k < slots table.now }
@@ -78,24 +79,17 @@ fn tally_slot(tally: Tally, table: &[i64], k: usize, session: i64, key1: i64) ->
     requires bounded { Bounded (most_slots - 1) tally }
     ensures { result ≡ tallied key1 (shown session (slot_at table.now k)) tally }
 {
-    let at = k * SLOT_WORDS;
-    if table[at + KEY1] != key1 {
+    if table[k * SLOT_WORDS + KEY1] != key1 {
         return tally;
     }
-    let operation = table[at + OPERATION];
-    if table[at + RUN] <= session {
-        if table_forms::lives(operation) {
-            return count_row(tally, table[at + CURRENT1], table[at + CURRENT2]);
-        }
-        return tally;
+    match reads::show(table::slot_at(table, k), session) {
+        Some(row) => count_row(tally, row.total1, row.total2),
+        None => tally,
     }
-    if (operation == UPDATE) | (operation == DELETE) {
-        return count_row(tally, table[at + OLD1], table[at + OLD2]);
-    }
-    tally
 }
 
 // Roll-up, in one pass: each slot is tested, and then counted.
+#[tactic(auto, using(laws::specs::Bits::plain, reads::specs::OpenLaws::opened))]
 pub fn roll_up(
     table: &[i64],
     versions: VersionRecord,

@@ -1,4 +1,4 @@
-// The table's words as slots. `slot_at` and `put_slot` are the two functions that read and write a slot. All here are leaves for our
+// The table's words as slots. `slot_within` and `put_slot` are the two functions that read and write a slot. All here are leaves for our
 // other crates: below test 1 they require a table that passes it.
 #![tactic(auto)]
 
@@ -42,6 +42,7 @@ pub struct Slot {
 }
 
 // Refusal 1.
+#[tactic(auto, unfolding(crate::specs::Slots::bad_table, laws::specs::Tests::any))]
 pub fn bad_table(table: &[i64]) -> bool
     ensures { result ≡ bad_table table.now }
 {
@@ -72,14 +73,13 @@ pub fn empty_slot() -> Slot
     }
 }
 
-// The slot at a place, empty past the end.
-pub fn slot_at(table: &[i64], k: usize) -> Slot
-    requires { bad_table table.now ≡ false }
+// The slot at a place of the table.
+#[tactic(auto, using(laws::specs::Bits::plain), unfolding(crate::specs::Slots::slot_at))]
+pub fn slot_within(table: &[i64], k: usize) -> Slot
+    requires lawful_table { bad_table table.now ≡ false }
+    requires in_table { k < slots table.now }
     ensures { result ≡ slot_at table.now k }
 {
-    if k >= slots_of(table) {
-        return empty_slot();
-    }
     let at = k * SLOT_WORDS;
     Slot {
         run: table[at + RUN],
@@ -93,27 +93,32 @@ pub fn slot_at(table: &[i64], k: usize) -> Slot
     }
 }
 
-// The slot written at a place. A store takes a whole local, so the words have one each first.
+// The slot at a place, empty past the end.
+pub fn slot_at(table: &[i64], k: usize) -> Slot
+    requires { bad_table table.now ≡ false }
+    ensures { result ≡ slot_at table.now k }
+{
+    if k < slots_of(table) {
+        slot_within(table, k)
+    } else {
+        empty_slot()
+    }
+}
+
+// The slot written at a place.
+#[tactic(auto, using(laws::specs::Bits::plain), unfolding(crate::specs::Slots::put_slot))]
 pub fn put_slot(table: &mut [i64], k: usize, x: Slot)
     requires lawful_table { bad_table table.old ≡ false }
     requires in_table { k < slots table.old }
     ensures { table.new ≡ put_slot table.old k x }
 {
     let at = k * SLOT_WORDS;
-    let run = x.run;
-    let operation = x.operation;
-    let key1 = x.key1;
-    let key2 = x.key2;
-    let current1 = x.current1;
-    let current2 = x.current2;
-    let old1 = x.old1;
-    let old2 = x.old2;
-    table[at + RUN] = run;
-    table[at + OPERATION] = operation;
-    table[at + KEY1] = key1;
-    table[at + KEY2] = key2;
-    table[at + CURRENT1] = current1;
-    table[at + CURRENT2] = current2;
-    table[at + OLD1] = old1;
-    table[at + OLD2] = old2;
+    table[at + RUN] = x.run;
+    table[at + OPERATION] = x.operation;
+    table[at + KEY1] = x.key1;
+    table[at + KEY2] = x.key2;
+    table[at + CURRENT1] = x.current1;
+    table[at + CURRENT2] = x.current2;
+    table[at + OLD1] = x.old1;
+    table[at + OLD2] = x.old2;
 }

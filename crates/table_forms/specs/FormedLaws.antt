@@ -8,6 +8,7 @@ use Rattle.laws.specs.TestLaws.{all-at, all_no, by_test, clash, not_no, not_yes}
 use Rattle.laws.specs.Tests.{all}
 use Rattle.laws.specs.OrderLaws.{eq_z_true, from_to_lem, le_z_trans}
 use Rattle.laws.specs.Order.{eq_z, from_to}
+use Rattle.laws.specs.Lowest.{some}
 use Rattle.laws.specs.LowestLaws.{none_passes, all_fail}
 use Rattle.versions.specs.declared.VersionRecord.{VersionRecord}
 use Rattle.versions.specs.Record.{last_run}
@@ -95,6 +96,11 @@ module _ (x : Slot) (v : VersionRecord) where
 -- ---- a live slot that is well formed is used
 pub live_used : (x : Slot) (v : VersionRecord) → live x ≡ true → well_formed x v ≡ true → Used x v
 live_used x v l w = formed_cases x v w (λ e. clash l (rw e dead_empty)) (λ u. u)
+
+-- ---- some slot is broken
+pub any_broken_is : (t : List ℤ) (v : VersionRecord) → any_broken t v ≡ some (λ k. broken (slot_at t k) v) (slots t)
+unfolding any_broken
+any_broken_is t v = refl
 
 -- ---- where no slot is broken, each is well formed
 pub none-broken : (t : List ℤ) (v : VersionRecord) → any_broken t v ≡ false → (k : ℕ) → k < slots t → well_formed (slot_at t k) v ≡ true

@@ -1,22 +1,25 @@
 -- The laws of free slots: the lowest is taken; a free slot is empty, or was deleted by an older run; and one that is not free
 -- is neither. Assumes nothing.
-use Rattle.std.specs.Prelude.{◌≡◌, refl, true, false, List, ℕ, ◌+◌, ℤ}
+use Rattle.std.specs.Prelude.{◌≡◌, refl, true, false, List, ℕ, ◌+◌, ◌*◌, ℤ}
 use Rattle.std.specs.Int.Signed.{lt_z}
+use Rattle.std.specs.Int.{w64}
+use Rattle.std.proofs.Common.{ap, ◌∙◌, SFits, to_z, of_z}
 use Rattle.laws.specs.TestLaws.{all-at, all_yes, by_test, clash}
 use Rattle.laws.specs.OrderLaws.{eq_z_true, eq_z_same}
-use Rattle.laws.specs.Below.{four_more}
-use Rattle.laws.specs.LowestLaws.{lowest_is}
-use Rattle.laws.specs.Lowest.{Lowest}
+use Rattle.laws.specs.Bits.{plain}
+use Rattle.laws.specs.LowestLaws.{lowest_is, below_four}
+use Rattle.laws.specs.Lowest.{Lowest, EachOfFour}
 use Rattle.versions.specs.declared.VersionRecord.{VersionRecord}
 use Rattle.versions.specs.Record.{run_number}
 use Rattle.table.specs.declared.Slot.{Slot}
-use Rattle.table.specs.Slots.{empty, slots, slot_at}
-use Rattle.table_forms.specs.Operations.{delete_operation, live}
-use Rattle.table_forms.specs.OperationLaws.{dead_empty, dead_delete}
+use Rattle.table.specs.Slots.{slot_words, operation_place, empty, word, slots, slot_at}
+use Rattle.table.specs.SlotLaws.{operation_at}
+use Rattle.table_forms.specs.Operations.{delete_operation, live, live_word}
+use Rattle.table_forms.specs.OperationLaws.{dead_empty, dead_delete, live-word}
 use Rattle.table_forms.specs.Formed.{all_zeros, well_formed}
 use Rattle.table_forms.specs.FormedLaws.{Used, zeros-empty, empty-zeros, formed_cases}
 use Rattle.table_free.specs.Free.{long_deleted, free, free_slot}
-use Rattle.table_free.specs.FreeSearch.{Taken, FourLive}
+use Rattle.table_free.specs.FreeSearch.{Taken, Alive}
 
 pub free_slot_is : (t : List ℤ) (v : VersionRecord) → Lowest (λ k. free (slot_at t k) v) (slots t) (free_slot t v)
 unfolding free_slot
@@ -40,10 +43,13 @@ pub live_kept : (x : Slot) (v : VersionRecord) → live x ≡ true → free x v 
 live_kept x v l =
     by_test (free x v) (λ y. free-cases x v y (λ e. clash l (rw e dead_empty)) (λ d. clash l (dead_delete x d.operation))) (λ n. n)
 
-pub past-live : {t : List ℤ} {k : ℕ} (v : VersionRecord) → FourLive t k → Taken t k v → Taken t (k + 4) v
-past-live {t} v f b =
-    four_more {P = λ i. free (slot_at t i) v ≡ false} b
-    (live_kept _ v f.first) (live_kept _ v f.second) (live_kept _ v f.third) (live_kept _ v f.fourth)
+pub past_live : (t : List ℤ) {k : ℕ} (v : VersionRecord) → EachOfFour (Alive t) k → Taken t v k → Taken t v (k + 4)
+past_live t v f b = below_four (λ j. live_kept _ v) f b
+
+-- the slot at a place lives by its operation word, as bits
+pub lives : (t : List ℤ) (k : ℕ) → SFits w64 (word t (k * slot_words + operation_place))
+    → live (slot_at t k) ≡ live_word (to_z w64 (of_z w64 (word t (k * slot_words + operation_place))))
+lives t k f = live-word (slot_at t k) ∙ rw (plain _ f) (ap live_word (operation_at t k))
 
 -- ---- a well formed slot that is not free is used, and if it is deleted then not by an older run
 pub record Busy (x : Slot) (v : VersionRecord) : Type 0 where

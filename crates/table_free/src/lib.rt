@@ -4,25 +4,30 @@
 #![tactic(auto)]
 
 ghost use Rattle.std.specs.Prelude.{◌≡◌, true, false, ◌+◌, ◌≤◌, ◌<◌};
-ghost use Rattle.laws.specs.Lowest.{Lowest};
+ghost use Rattle.laws.specs.Lowest.{lowest, below, EachOfFour};
 ghost use Rattle.versions.specs.Record.{bad_record};
 ghost use Rattle.table.specs.Slots.{bad_table, slots, slot_at};
 ghost use Rattle.table_free.specs.Free.{long_deleted, free, free_slot};
-ghost use Rattle.table_free.specs.FreeSearch.{Taken, FourLive};
+ghost use Rattle.table_free.specs.FreeSearch.{Taken, Alive};
 
 use table::{OPERATION, SLOT_WORDS, Slot};
+use table_forms::Operation;
 use versions::VersionRecord;
+
+// The search passes so many slots at a time.
+const GROUP: usize = 4;
 
 fn long_deleted(x: Slot, versions: VersionRecord) -> bool
     requires { bad_record versions ≡ false }
     ensures { result ≡ long_deleted x versions }
 {
-    let run = x.run;
-    let operation = x.operation;
     let running = versions::run_number(versions);
-    (operation == table_forms::DELETE) & (run < running) & table_forms::well_formed(x, versions)
+    (x.operation == Operation::Delete as i64)
+        & (x.run < running)
+        & table_forms::well_formed(x, versions)
 }
 
+#[tactic(auto, unfolding(crate::specs::Free::free))]
 fn is_free(x: Slot, versions: VersionRecord) -> bool
     requires { bad_record versions ≡ false }
     ensures { result ≡ free x versions }
@@ -31,6 +36,7 @@ fn is_free(x: Slot, versions: VersionRecord) -> bool
 }
 
 // Whether the slot at a place is free. A live one is told by its operation word alone.
+#[tactic(auto, using(crate::specs::FreeLaws::lives, crate::specs::FreeLaws::live_kept))]
 fn free_at(table: &[i64], k: usize, versions: VersionRecord) -> bool
     requires lawful_table { bad_table table.now ≡ false }
     requires in_table { k < slots table.now }
@@ -40,14 +46,15 @@ fn free_at(table: &[i64], k: usize, versions: VersionRecord) -> bool
     if table_forms::lives(table[k * SLOT_WORDS + OPERATION]) {
         return false;
     }
-    is_free(table::slot_at(table, k), versions)
+    is_free(table::slot_within(table, k), versions)
 }
 
 // Whether all of the four slots from a place on are live.
+#[tactic(auto, using(crate::specs::FreeLaws::lives, table::specs::SlotLaws::word_on), unfolding(laws::specs::Tests::all))]
 fn four_live(table: &[i64], k: usize) -> bool
     requires lawful_table { bad_table table.now ≡ false }
     requires in_table { k + 4 ≤ slots table.now }
-    ensures { result ≡ true → FourLive table.now k }
+    ensures { result ≡ true → EachOfFour (Alive table.now) k }
 {
     let at = k * SLOT_WORDS;
     table_forms::lives(table[at + OPERATION])
@@ -56,40 +63,34 @@ fn four_live(table: &[i64], k: usize) -> bool
         & table_forms::lives(table[at + 3 * SLOT_WORDS + OPERATION])
 }
 
-// The lowest free slot below an end, or the end, looked for from a place on below which none is free.
-fn free_from(table: &[i64], from: usize, to: usize, versions: VersionRecord) -> usize
+// The lowest free slot below an end, looked for from a place on below which none is free.
+fn free_from(table: &[i64], from: usize, to: usize, versions: VersionRecord) -> Option<usize>
     requires lawful_table { bad_table table.now ≡ false }
     requires in_table { to ≤ slots table.now }
     requires lawful_record { bad_record versions ≡ false }
-    requires taken { Taken table.now from versions }
-    ensures { Lowest (λ k. free (slot_at table.now k) versions) to result }
+    requires taken { Taken table.now versions from }
+    ensures { result ≡ below to (lowest (λ k. free (slot_at table.now k) versions) to) }
 {
-    let mut k = from;
-    while k < to {
-        if free_at(table, k, versions) {
-            return k;
-        }
-        k += 1;
-    }
-    to
+    (from..to).find(|&k| free_at(table, k, versions))
 }
 
-// The number of the lowest free slot; the number of slots where none is free.
-pub fn free_slot(table: &[i64], versions: VersionRecord) -> usize
+// The lowest free slot, where one is free.
+#[tactic(auto, unfolding(crate::specs::Free::free_slot))]
+pub fn free_slot(table: &[i64], versions: VersionRecord) -> Option<usize>
     requires lawful_table { bad_table table.now ≡ false }
     requires lawful_record { bad_record versions ≡ false }
-    ensures { result ≡ free_slot table.now versions }
+    ensures { result ≡ below (slots table.now) (free_slot table.now versions) }
 {
     let slots = table::slots_of(table);
-    let mut place: usize = 0;
-    while place + 4 <= slots {
+    let groups = slots / GROUP;
+    for group in 0..groups {
+        let place = GROUP * group;
         if !four_live(table, place) {
-            let found = free_from(table, place, place + 4, versions);
-            if found < place + 4 {
-                return found;
+            let found = free_from(table, place, place + GROUP, versions);
+            if let Some(slot) = found {
+                return Some(slot);
             }
         }
-        place += 4;
     }
-    free_from(table, place, slots, versions)
+    free_from(table, GROUP * groups, slots, versions)
 }

@@ -1,13 +1,14 @@
 -- What the search for a key has passed, slots of which none has the key, and the word that it passes them by. Assumes nothing.
-use Rattle.std.specs.Prelude.{◌≡◌, false, ◌⊎◌, List, ℕ, ◌+◌, ◌*◌, ◌<◌, ℤ}
+use Rattle.std.specs.Prelude.{◌≡◌, false, ◌⊎◌, List, ℕ, ◌+◌, ◌*◌, ℤ}
 use Rattle.laws.specs.Order.{eq_z}
+use Rattle.laws.specs.Lowest.{NoneBelow}
 use Rattle.table.specs.Slots.{slot_words, key1_place, key2_place, word, slot_at}
 use Rattle.table_keys.specs.declared.KeyWord.{KeyWord}
 use Rattle.table_keys.specs.Keys.{has_key}
 
 -- ---- a search has passed the slots below a place: none of them has the key
-abbrev pub Keyless : List ℤ → ℕ → ℤ → ℤ → Type 0
-Keyless t k key1 key2 = (j : ℕ) → j < k → has_key (slot_at t j) key1 key2 ≡ false
+abbrev pub Keyless : List ℤ → ℤ → ℤ → ℕ → Type 0
+Keyless t key1 key2 = NoneBelow (λ j. has_key (slot_at t j) key1 key2)
 
 -- ---- it compares a word of each slot: the second key word, or the first
 abbrev pub comparing : ℕ → ℤ → KeyWord
@@ -19,10 +20,3 @@ IsKeyWord c key1 key2 = (c ≡ comparing key2_place key2) ⊎ (c ≡ comparing k
 -- a slot has another word there
 abbrev pub Apart : List ℤ → ℕ → KeyWord → Type 0
 Apart t k c = eq_z (word t (k * slot_words + c.place)) c.number ≡ false
-
--- and it passes four slots that each have another
-pub record FourApart (t : List ℤ) (k : ℕ) (c : KeyWord) : Type 0 where
-  pub first : Apart t k c
-  pub second : Apart t (k + 1) c
-  pub third : Apart t (k + 2) c
-  pub fourth : Apart t (k + 3) c

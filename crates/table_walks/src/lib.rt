@@ -10,7 +10,7 @@ ghost use Rattle.table_forms.specs.Operations.{insert_operation, delete_operatio
 ghost use Rattle.table_forms.specs.Formed.{used_well, broken, any_broken};
 
 use table::{CURRENT1, CURRENT2, OLD1, OLD2, OPERATION, RUN, SLOT_WORDS};
-use table_forms::{DELETE, INSERT};
+use table_forms::Operation;
 use versions::VersionRecord;
 
 // Used well, of the slot at a place whose operation is 1 to 3. Words are read where they are asked for, and the totals are asked of in
@@ -31,7 +31,7 @@ fn used_well_at(table: &[i64], k: usize, versions: VersionRecord) -> bool
     let operation = table[at + OPERATION];
     let old1 = table[at + OLD1];
     let old2 = table[at + OLD2];
-    if !((operation != INSERT) | ((old1 == 0) & (old2 == 0))) {
+    if !((operation != Operation::Insert as i64) | ((old1 == 0) & (old2 == 0))) {
         return false;
     }
     table_forms::are_lawful(table[at + CURRENT1], table[at + CURRENT2], old1, old2)
@@ -45,10 +45,10 @@ pub fn is_broken_at(table: &[i64], k: usize, versions: VersionRecord) -> bool
     ensures { result ≡ broken (slot_at table.now k) versions }
 {
     let operation = table[k * SLOT_WORDS + OPERATION];
-    if (INSERT <= operation) & (operation <= DELETE) {
+    if (Operation::Insert as i64 <= operation) & (operation <= Operation::Delete as i64) {
         return !used_well_at(table, k, versions);
     }
-    !table_forms::all_zeros(table::slot_at(table, k))
+    !table_forms::all_zeros(table::slot_within(table, k))
 }
 
 // Refusal 6, where the call rests on any slot: the pass stops at the first that is broken.
@@ -57,13 +57,5 @@ pub fn any_broken(table: &[i64], versions: VersionRecord) -> bool
     requires lawful_record { bad_record versions ≡ false }
     ensures { result ≡ any_broken table.now versions }
 {
-    let slots = table::slots_of(table);
-    let mut k: usize = 0;
-    while k < slots {
-        if is_broken_at(table, k, versions) {
-            return true;
-        }
-        k += 1;
-    }
-    false
+    (0..table::slots_of(table)).any(|k| is_broken_at(table, k, versions))
 }

@@ -1,31 +1,21 @@
--- `table_keys::key_far`: four more slots are passed since they lie apart or since none of them has the key, and what the searches
--- one by one find is lowest, so it is the key's slot. Assumes nothing.
-use Rattle.std.proofs.Common.{arith}
-use Rattle.laws.specs.LowestLaws.{lowest_only, found}
-use Rattle.table_keys.specs.KeyLaws.{key_slot_is, lowest_plain, past_four}
+-- `table_keys::key_far`: a group is passed since its four slots lie apart or since none of them has the key, and what the searches one
+-- by one find is the lowest of all. Assumes nothing.
+use Rattle.std.proofs.Common.{rules, arith}
+use Rattle.laws.specs.Bits.{plain}
+use Rattle.laws.specs.LowestLaws.{found_later, passed_all}
+use Rattle.table_keys.specs.Keys.{key_slot}
+use Rattle.table_keys.specs.KeyLaws.{past_four}
 use Rattle.table_keys.proofs.key_far.Goals as goal
-use Rattle.table_keys.proofs.key_far.Goals.{then-not-four_apart+else-found-k, else-not-four_apart}
+use Rattle.table_keys.proofs.key_far.Goals.{then-not-four_apart+in_default, else-not-four_apart}
 
-pub returns-then-found-k : goal.returns-then-found-k
-returns-then-found-k c =
-    let s = c.key_from-found.ensures in
-    let here = found {n = c.slots_of-slots.result} s.below (omega arith) (s.passes c.if-found-k.true) in
-    lowest_only (lowest_plain _ c.ranges.key1 c.ranges.key2 (rw c.slots_of-slots.ensures at here)) (key_slot_is _ _ _)
+pub returns-in-Some : goal.returns-in-Some
+unfolding key_slot
+returns-in-Some c = found_later _ _ (omega arith) (simp (plain _ c.ranges.key1, plain _ c.ranges.key2) at c.key_from-found.ensures) (cc)
 
-pub loop-k-preserved : goal.loop-k-preserved
-loop-k-preserved c =
-    let inv = c.loop-k.invariant in (
-      inv.0,
-      omega arith,
-      elim c.if-not-four_apart.branch [
-        | then-not-four_apart+else-found-k w ↦ λ j h. w.key_from-found.ensures.below j (omega (arith, w.if-found-k.false))
-        | else-not-four_apart w ↦ past_four inv.3 (c.four_apart.ensures w.if-not-four_apart.false) inv.2
-      ],
-      elim c.if-not-four_apart.branch [
-        | then-not-four_apart+else-found-k w ↦ rw w.compared-is w.other_word-compared.ensures
-        | else-not-four_apart w ↦ rw w.compared-is inv.3
-      ],
-    )
-
-pub returns : goal.returns
-returns c = lowest_only (lowest_plain _ c.ranges.key1 c.ranges.key2 (rw c.slots_of-slots.ensures at c.key_from.ensures)) (key_slot_is _ _ _)
+pub loop-group-preserved : goal.loop-group-preserved
+loop-group-preserved c =
+    let inv = c.loop-group.invariant in
+    elim c.if-not-four_apart.branch [
+      | then-not-four_apart+in_default w ↦ (λ j h. passed_all _ _ w.key_from-found.ensures (cc) j (omega arith), search rules)
+      | else-not-four_apart w ↦ (λ j h. past_four _ inv.1 (c.four_apart.ensures w.if-not-four_apart.false) inv.0 j (omega arith), search rules)
+    ]
