@@ -2,11 +2,12 @@
 -- oldest open one, which with no run active are the record; a load of its block writes the table's own slots and no other; and a load
 -- of every block of a table, into any table of its length, gives that table. The calls' tests fail one by one, by the laws of their
 -- words and slots. Assumes nothing.
-use Rattle.std.specs.Prelude.{◌≡◌, false, List, ℕ, zero, suc, ◌+◌, ◌*◌, ◌-◌, ◌≤◌, ◌<◌, ltb, ℤ, length}
+use Rattle.std.specs.Prelude.{◌≡◌, false, List, ℕ, zero, suc, ◌+◌, ◌*◌, ◌-◌, ◌≤◌, ◌<◌, ltb, ℤ, length, None, Ok}
 use Rattle.std.proofs.Math.Path.{sym}
-use Rattle.std.proofs.Common.{◌∙◌}
+use Rattle.std.proofs.Common.{ap, ◌∙◌}
 use native.Mathlib.Omega.{arith}
 use borrow.Author.Tests.{ltb-false}
+use Rattle.refusals.specs.declared.Refusal.TheVariants as refusal
 use Rattle.laws.specs.TestLaws.{by_test, by_order}
 use Rattle.laws.specs.FirstLaws.{none}
 use Rattle.versions.specs.declared.VersionRecord.{VersionRecord}
@@ -20,10 +21,9 @@ use Rattle.blocks_headers.specs.HeaderFieldLaws.{header_words_lem, header_right}
 use Rattle.blocks_loads.specs.LoadedSlots.{blocks, first_slot, slot_wrong, slot_block_wrong, loaded_to}
 use Rattle.blocks_loads.specs.AllowedLaws.{slots_allowed}
 use Rattle.blocks_loads.specs.LoadedLaws.{loaded_length, loaded_other, loaded_same}
-use Rattle.blocks.specs.declared.Header.TheVariants.{Holds}
-use Rattle.blocks.specs.declared.Loaded.TheVariants.{Done}
+use Rattle.blocks.specs.declared.Header.{Header}
 use Rattle.blocks.specs.HeaderLaws.{header_lawful, header_block, header_read}
-use Rattle.blocks.proofs.EndLaws.{end_0, load_block_end}
+use Rattle.blocks.proofs.EndLaws.{bytes_pass, end_passes, load_block_end}
 use Rattle.blocks_saves.specs.SlotBlocks.{slot_block_words}
 use Rattle.blocks_saves.specs.SlotBlockLaws.{block_formed}
 use Rattle.blocks_saves.specs.SlotsBack.{Fitting, slot-words, number-back, filler_back, slot-back}
@@ -34,29 +34,27 @@ use Rattle.blocks.specs.LoadHeader.{load_header_refusal, load_header_answer}
 use Rattle.blocks.specs.LoadBlock.{load_block_refusal, load_block_answer, load_block_words}
 
 -- ---- the header
-module _ (t : List ℤ) (v : VersionRecord) (allowed : save_header_refusal t v ≡ 0) where
+module _ (t : List ℤ) (v : VersionRecord) (allowed : save_header_refusal t v ≡ None) where
   -- a load of it is not refused
-  pub header_loads : load_header_refusal (save_header_block t v) ≡ 0
+  pub header_loads : load_header_refusal (save_header_block t v) ≡ None
   unfolding load_header_refusal
   header_loads =
       let lawful = header_lawful t v allowed in
       let made = header_words_lem _ _ _ lawful in
-      rw (header_block t v allowed) (end_0 _ _ (block_length _ made) (check_right _ made) (header_right _ _ _ lawful))
+      rw (header_block t v allowed) (end_passes _ _ (bytes_pass _ (block_length _ made) (check_right _ made)) (header_right _ _ _ lawful))
 
   -- and answers the slots of the table, the current version and the oldest open one
-  pub header_back : load_header_answer (save_header_block t v) ≡ Holds (slots t) v.current v.oldest
+  pub header_back : load_header_answer (save_header_block t v) ≡ Ok (record { slots = slots t; current = v.current; oldest = v.oldest })
   unfolding load_header_answer
-  header_back = rw header_loads (header_read t v allowed)
+  header_back = rw header_loads (ap Ok (header_read t v allowed))
 
   -- so the record of what it answers, with no run active, is the one that was saved
-  pub record_back : {count : ℕ} {current oldest : ℤ} → load_header_answer (save_header_block t v) ≡ Holds count current oldest
-      → record { current = current; active = false; oldest = oldest } ≡ v
+  pub record_back : {h : Header} → load_header_answer (save_header_block t v) ≡ Ok h → record { current = h.current; active = false; oldest = h.oldest } ≡ v
   unfolding save_header_refusal
-  record_back {count} {current} {oldest} answered =
-      let same : Holds count current oldest ≡ Holds (slots t) v.current v.oldest = sym answered ∙ header_back in
-      let current_same : current ≡ v.current = cc in
-      let oldest_same : oldest ≡ v.oldest = cc in
-      rw (current_same, oldest_same, ← none _ tt allowed 7)
+  record_back {h} answered =
+      let same : Ok h ≡ Ok (record { slots = slots t; current = v.current; oldest = v.oldest }) = sym answered ∙ header_back in
+      let header : h ≡ record { slots = slots t; current = v.current; oldest = v.oldest } = cc in
+      rw (header, ← none _ allowed refusal.RunActive)
 
 -- ---- a block
 -- one table has the slots of another from a place on, so many of them, and its own elsewhere
@@ -69,13 +67,13 @@ pub record Restored (t u loaded : List ℤ) (from count : ℕ) : Type 0 where
 beyond : (t u : List ℤ) → length u ≡ length t → bad_table t ≡ false → (j : ℕ) → slots t ≤ j → slot_at u j ≡ slot_at t j
 beyond t u same sound j h = slot_at-past u j (same_length t u same ∙ sound) (rw same h) ∙ sym (slot_at-past t j sound h)
 
-module _ (t u : List ℤ) (v : VersionRecord) (k : ℕ) (fitting : Fitting t) (same : length u ≡ length t) (allowed : save_block_refusal t v k ≡ 0) where
+module _ (t u : List ℤ) (v : VersionRecord) (k : ℕ) (fitting : Fitting t) (same : length u ≡ length t) (allowed : save_block_refusal t v k ≡ None) where
   -- each slot of the block is one that a load takes: well formed in the table, and zero beyond it
   slot_right : (j : ℕ) → j < block_slots → slot_wrong u v k (block_of (slot_block_words t k)) j ≡ false
   unfolding save_block_refusal
   slot_right j a =
       by_test (ltb (first_slot k + j) (slots u))
-      (λ y. rw (y, slot-back t k (number_fits t v k allowed) fitting j a) (block_formed t v k (none _ tt allowed 6) j a))
+      (λ y. rw (y, slot-back t k (number_fits t v k allowed) fitting j a) (block_formed t v k (none _ allowed refusal.BrokenSlot) j a))
       (λ m. let past : slots t ≤ first_slot k + j = omega (arith, ltb-false (first_slot k + j) (slots u) m) in
       rw (m, slot-back t k (number_fits t v k allowed) fitting j a, slot_at-past t (first_slot k + j) (table-sound t v k allowed) past, empty-zeros))
 
@@ -84,14 +82,14 @@ module _ (t u : List ℤ) (v : VersionRecord) (k : ℕ) (fitting : Fitting t) (s
   slots_right = let fits = number_fits t v k allowed in slots_allowed u v k _ (number-back t k fits) (filler_back t k fits) slot_right
 
   -- a load of it is not refused
-  pub block_loads : load_block_refusal u v k (save_block_block t v k) ≡ 0
+  pub block_loads : load_block_refusal u v k (save_block_block t v k) ≡ None
   block_loads =
       let made = slot-words t k (number_fits t v k allowed) in
       rw (slots-saved t v k allowed)
-      (load_block_end u v k _ (rw (same_length t u same, same) (front t v k allowed)) ∙ end_0 _ _ (block_length _ made) (check_right _ made) slots_right)
+      (load_block_end u v k _ (rw (same_length t u same, same) (front t v k allowed)) ∙ end_passes _ _ (bytes_pass _ (block_length _ made) (check_right _ made)) slots_right)
 
   -- and is done
-  pub block_done : load_block_answer u v k (save_block_block t v k) ≡ Done
+  pub block_done : load_block_answer u v k (save_block_block t v k) ≡ Ok tt
   unfolding load_block_answer
   block_done = rw block_loads
 
@@ -118,7 +116,7 @@ load_all t v u zero = u
 load_all t v u (suc n) = load_block_words (load_all t v u n) v (suc n) (save_block_block t v (suc n))
 
 module _ (t u : List ℤ) (v : VersionRecord) (fitting : Fitting t) (sound : bad_table t ≡ false) (same : length u ≡ length t)
-    (allowed : (k : ℕ) → 1 ≤ k → k ≤ blocks t → save_block_refusal t v k ≡ 0) where
+    (allowed : (k : ℕ) → 1 ≤ k → k ≤ blocks t → save_block_refusal t v k ≡ None) where
   -- one more block, into a table of that length
   next : (n : ℕ) → n < blocks t → length (load_all t v u n) ≡ length t
       → Restored t (load_all t v u n) (load_all t v u (suc n)) (first_slot (suc n)) block_slots

@@ -17,6 +17,10 @@ idle_tests t v = (bad_table t, refusal.BadTable) ∷ (bad_record v, refusal.BadR
 abbrev pub block_tests : List ℤ → VersionRecord → ℕ → List (Bool × Refusal)
 block_tests t v k = idle_tests t v ++ (no_such_block t k, refusal.NoSuchPlace) ∷ []
 
--- 14, 15, 16: a load ends with these; the last is whether the words of its block are wrong
+-- 14, 15: a load goes on with these, of the block itself
+abbrev pub byte_tests : List ℕ → List (Bool × Refusal)
+byte_tests block = (not_block block, refusal.NotBlock) ∷ (check_wrong block, refusal.WrongCheck) ∷ []
+
+-- 14, 15, 16: and ends with 16, that the words of its block are wrong
 abbrev pub end_tests : List ℕ → Bool → List (Bool × Refusal)
-end_tests block wrong = (not_block block, refusal.NotBlock) ∷ (check_wrong block, refusal.WrongCheck) ∷ (wrong, refusal.BadField) ∷ []
+end_tests block wrong = byte_tests block ++ (wrong, refusal.BadField) ∷ []

@@ -3,7 +3,7 @@
 use Rattle.std.specs.Prelude.{◌≡◌, Bool, List, ℕ, pos, Option, Result}
 use Rattle.std.proofs.Common.{sym, ◌∙◌}
 use Rattle.refusals.specs.declared.Refusal.{Refusal}
-use Rattle.laws.specs.First.{first, unless, kept_or}
+use Rattle.laws.specs.First.{first, unless}
 use Rattle.blocks_words.specs.Words.{word_at}
 use Rattle.blocks_headers.specs.HeaderFields.{slots_place, current_place, oldest_place, oldest_of, header_wrong}
 use Rattle.blocks.specs.declared.Header.{Header}

@@ -1,6 +1,7 @@
 -- A save that is not refused: its table is sound, and its block is the one of its slots' words, which fit. Assumes nothing.
-use Rattle.std.specs.Prelude.{◌≡◌, false, List, ℕ, ◌<◌, ℤ}
+use Rattle.std.specs.Prelude.{◌≡◌, false, List, ℕ, ◌<◌, ℤ, None}
 use Rattle.std.proofs.Common.{arith}
+use Rattle.refusals.specs.declared.Refusal.TheVariants as refusal
 use Rattle.laws.specs.FirstLaws.{none}
 use Rattle.laws.specs.First.{first}
 use Rattle.versions.specs.declared.VersionRecord.{VersionRecord}
@@ -10,13 +11,13 @@ use Rattle.blocks_words.specs.Words.{word_base, block_of}
 use Rattle.blocks_saves.specs.SlotBlocks.{slot_block_words}
 use Rattle.blocks.specs.FrontLaws.{front_passes, within}
 use Rattle.blocks.specs.BlockTests.{block_tests}
-use Rattle.blocks.specs.SaveBlock.{save_block_refusal, save_block_block}
+use Rattle.blocks.specs.SaveBlock.{save_block_refusal, saved_block, save_block_block}
 
-module _ (t : List ℤ) (v : VersionRecord) (k : ℕ) (allowed : save_block_refusal t v k ≡ 0) where
+module _ (t : List ℤ) (v : VersionRecord) (k : ℕ) (allowed : save_block_refusal t v k ≡ None) where
   -- the tests before its slots do not refuse it
-  pub front : first (block_tests t v k) ≡ 0
+  pub front : first (block_tests t v k) ≡ None
   unfolding save_block_refusal
-  front = front_passes t v k (none _ tt allowed 1) (none _ tt allowed 2) (none _ tt allowed 7) (none _ tt allowed 5)
+  front = let no = none _ allowed in front_passes t v k (no refusal.BadTable) (no refusal.BadRecord) (no refusal.RunActive) (no refusal.NoSuchPlace)
 
   -- so the table is sound
   pub table-sound : bad_table t ≡ false
@@ -24,7 +25,7 @@ module _ (t : List ℤ) (v : VersionRecord) (k : ℕ) (allowed : save_block_refu
 
   -- the block is that of its slots' words
   pub slots-saved : save_block_block t v k ≡ block_of (slot_block_words t k)
-  unfolding save_block_block
+  unfolding save_block_block saved_block
   slots-saved = rw allowed
 
   -- whose number is a word

@@ -2,19 +2,19 @@
 // everything before it writes.
 #![tactic(auto)]
 
-ghost use Rattle.std.specs.Prelude.{◌≡◌};
+ghost use Rattle.std.specs.Prelude.{◌≡◌, None, Some, MatchResult};
 ghost use Rattle.laws.specs.First.{first, unless};
-ghost use Rattle.blocks.specs.BlockTests.{idle_tests, block_tests};
+ghost use Rattle.blocks.specs.BlockTests.{idle_tests, block_tests, byte_tests};
 ghost use Rattle.blocks.specs.SaveHeader.{SaveHeaderContract};
 ghost use Rattle.blocks.specs.SaveBlock.{SaveBlockContract};
 ghost use Rattle.blocks.specs.LoadHeader.{LoadHeaderContract};
 ghost use Rattle.blocks.specs.LoadBlock.{LoadBlockContract};
 
+use blocks_headers::{CURRENT_PLACE, OLDEST_PLACE, SLOTS_PLACE};
+pub use blocks_words::BLOCK_BYTES;
+use blocks_words::word_at;
 use refusals::Refusal;
 use versions::VersionRecord;
-
-// The bytes of a block.
-pub const BLOCK_BYTES: usize = 512;
 
 // What load header answers: slots, current and the oldest open version.
 #[derive(Clone, Copy, Debug, PartialEq, Eq)]
@@ -51,18 +51,28 @@ fn test_block(table: &[i64], versions: VersionRecord, number: usize) -> Result<(
     Ok(())
 }
 
+// The bytes of a block, past the tests that the lists of both loads make of them: 14, 15.
+fn test_bytes(bytes: &[u8]) -> Result<&[u8; BLOCK_BYTES], Refusal>
+    ensures { MatchResult result (λ block. (block.now ≡ bytes.now) × (first (byte_tests bytes.now) ≡ None)) (λ e. first (byte_tests bytes.now) ≡ Some e) }
+{
+    let Some(block) = bytes.as_array() else {
+        return Err(Refusal::NotBlock);
+    };
+    if blocks_words::check_wrong(block) {
+        return Err(Refusal::WrongCheck);
+    }
+    Ok(block)
+}
+
 // Save header: 1, 2, 7.
-pub fn save_header(
-    table: &[i64],
-    versions: VersionRecord,
-) -> Result<[u8; BLOCK_BYTES], Refusal>
+pub fn save_header(table: &[i64], versions: VersionRecord) -> Result<[u8; BLOCK_BYTES], Refusal>
     ensures { SaveHeaderContract table.now versions result }
 {
     test_idle(table, versions)?;
-    let count = table::slots_of(table);
-    let current = versions.current;
-    let oldest = versions.oldest;
-    Ok(blocks_headers::header_block(count as u32, current as u32, oldest as u32))
+    let slots = table::slots_of(table) as u32;
+    let current = versions.current as u32;
+    let oldest = versions.oldest as u32;
+    Ok(blocks_headers::header_block(slots, current, oldest))
 }
 
 // Save block: 1, 2, 7, 5, 6 (its slots).
@@ -81,21 +91,16 @@ pub fn save_block(
 pub fn load_header(block: &[u8]) -> Result<Header, Refusal>
     ensures { LoadHeaderContract block.now result }
 {
-    if block.len() != BLOCK_BYTES {
-        return Err(Refusal::NotBlock);
-    }
-    if blocks_words::check_wrong(block) {
-        return Err(Refusal::WrongCheck);
-    }
+    let block = test_bytes(block)?;
     if blocks_headers::header_wrong(block) {
         return Err(Refusal::BadField);
     }
-    let slots = blocks_words::word_at(block, blocks_headers::SLOTS_PLACE);
-    let current = blocks_words::word_at(block, blocks_headers::CURRENT_PLACE);
-    let oldest = blocks_words::word_at(block, blocks_headers::OLDEST_PLACE);
+    let slots = word_at(block, SLOTS_PLACE);
+    let current = word_at(block, CURRENT_PLACE);
+    let oldest = word_at(block, OLDEST_PLACE);
     Ok(Header {
-        slots: slots,
-        current: current as i64,
+        slots,
+        current: i64::from(current),
         oldest: blocks_headers::oldest_of(current, oldest),
     })
 }
@@ -110,12 +115,7 @@ pub fn load_block(
     ensures { LoadBlockContract table.old versions number block.now result table.new }
 {
     test_block(table, versions, number)?;
-    if block.len() != BLOCK_BYTES {
-        return Err(Refusal::NotBlock);
-    }
-    if blocks_words::check_wrong(block) {
-        return Err(Refusal::WrongCheck);
-    }
+    let block = test_bytes(block)?;
     if blocks_loads::slot_block_wrong(table, versions, number, block) {
         return Err(Refusal::BadField);
     }

@@ -1,27 +1,27 @@
 -- The header made of slots, current and oldest: its words are written one after another before filler that stands; where they are
 -- lawful they fit, come back from their places, oldest is read as itself, and none of them is wrong. Assumes nothing.
-use Rattle.std.specs.Prelude.{◌≡◌, true, false, not, List, [], ◌∷◌, pos, nat_abs, ◌-ℤ◌}
+use Rattle.std.specs.Prelude.{◌≡◌, true, false, not, ◌||◌, List, [], ◌∷◌, pos, nat_abs, ◌-ℤ◌}
 use Rattle.std.proofs.Math.Path.{refl}
-use Rattle.std.proofs.Common.{ap, ◌∙◌, SFits}
-use Prim.Native.Nat.{ℕ, zero, suc, ◌*◌, ◌≤◌, ◌<◌}
+use Rattle.std.proofs.Common.{ap, ◌∙◌, int_eq, SFits}
+use Rattle.std.proofs.lemmas.Bool.Decides.{nat_tests}
+use Prim.Native.Nat.{ℕ, zero, suc, ◌≤◌, ◌<◌}
 use native.Mathlib.Omega.{arith}
 use Rattle.std.proofs.Math.ListN.{replicate}
-use Rattle.std.proofs.lemmas.List.Edits.{sets}
 use Rattle.std.specs.Int.{w64}
 use borrow.Author.Tests.{leb-true, le-leb, eq-eqb, ne_eqb}
 use Rattle.laws.specs.TestLaws.{by_order, not_no, all_no, any-all, none-at}
 use Rattle.laws.specs.Tests.{any}
 use Rattle.laws.specs.OrderLaws.{from_to_lem, previous}
 use Rattle.laws.specs.Order.{from_to}
-use Rattle.laws.specs.Digits.{digits}
 use Rattle.laws.specs.DigitLaws.{EachBelow}
 use Rattle.versions.specs.Record.{largest_version}
 use Rattle.table.specs.Slots.{most_slots}
-use Rattle.blocks_words.specs.Words.{number_place, check_place, byte_base, word_bytes, word_base, block_of, word_at, nonzero}
+use Rattle.blocks_words.specs.Words.{number_place, word_base, block_of, word_at, nonzero}
+use Rattle.blocks_words.specs.declared.drafts.Draft.{Draft}
 use Rattle.blocks_words.specs.Groups.{zeros-below}
 use Rattle.blocks_words.specs.WordLaws.{BlockWords, block_word, filler_zero}
-use Rattle.blocks_words.specs.Follows.{FollowedBy}
-use Rattle.blocks_words.specs.FollowLaws.{whole}
+use Rattle.blocks_words.specs.Follows.{FollowedBy, Follow, Finished}
+use Rattle.blocks_words.specs.FollowLaws.{filler_stands}
 use Rattle.blocks_headers.specs.HeaderFields.{slots_place, current_place, oldest_place, header_filler_place, header_filler_words, header_words, oldest_allowed, oldest_of, header_wrong}
 
 -- ---- the number before that of a word fits a signed word, also where it is −1
@@ -36,6 +36,13 @@ oldest_allowed_lem (suc current) oldest first below near =
     by_order oldest (suc current)
     (λ l. any-all _ ∙ ap not (all_no _ 1 (rw (previous current) (ap not (eq-eqb oldest current (omega arith))))))
     (λ g. any-all _ ∙ ap not (all_no _ 2 (ap not (eq-eqb oldest (suc current) (omega arith)))))
+
+-- and as the code asks it: one of three
+pub oldest_among : (current oldest : ℕ) → (int_eq (pos 0) (pos oldest) || (int_eq (pos current -ℤ pos 1) (pos oldest) || (int_eq (pos current) (pos oldest) || false)))
+    ≡ oldest_allowed (pos current) (pos oldest)
+unfolding any
+oldest_among zero oldest = grind (arith, nat_tests)
+oldest_among (suc current) oldest = rw (previous current) (grind (arith, nat_tests))
 
 pub oldest_itself : (current oldest : ℕ) → 1 ≤ oldest → oldest_of (pos current) (pos oldest) ≡ pos oldest
 unfolding oldest_of
@@ -64,11 +71,14 @@ pub record Lawful (slots current oldest : ℕ) : Type 0 where
   pub last : current ≤ nat_abs largest_version
 
 module _ (slots current oldest : ℕ) where
-  -- the check after its words and filler
-  pub header_whole : {block : List ℕ} {check : ℕ} → FollowedBy (0 ∷ slots ∷ current ∷ oldest ∷ []) block check
-      → sets block (check_place * word_bytes) (digits byte_base word_bytes check) ≡ block_of (header_words slots current oldest)
+  -- it is what a draft is finished to in which the three words were written; its number and its filler stand already
+  pub header_written : {draft with_slots with_current with_oldest : Draft} {block : List ℕ} → FollowedBy [] draft
+      → Follow slots_place draft (slots ∷ []) with_slots → Follow current_place with_slots (current ∷ []) with_current
+      → Follow oldest_place with_current (oldest ∷ []) with_oldest → Finished with_oldest block → block ≡ block_of (header_words slots current oldest)
   unfolding header_words
-  header_whole = whole (0 ∷ slots ∷ current ∷ oldest ∷ []) header_filler_words refl
+  header_written none first second third done =
+      done.whole (0 ∷ slots ∷ current ∷ oldest ∷ []) header_filler_words refl
+      (third.after _ refl (second.after _ refl (first.after _ refl (filler_stands [] 1 (omega arith) none))))
 
   module _ (lawful : Lawful slots current oldest) where
     -- its words are 127, each below 2^32

@@ -2,10 +2,12 @@
 // block that a save makes. All here are leaves for our other crates.
 #![tactic(auto)]
 
-ghost use Rattle.std.specs.Prelude.{◌≡◌, ◌≤◌, pos, length};
-ghost use Rattle.blocks_words.specs.Words.{block_bytes, block_of};
+ghost use Rattle.std.specs.Prelude.{◌≡◌, ◌≤◌, pos};
+ghost use Rattle.blocks_words.specs.Words.{block_of};
 ghost use Rattle.blocks_headers.specs.HeaderFields.{header_words, header_wrong, oldest_of};
 
+use blocks_words::BLOCK_BYTES;
+use blocks_words::drafts::Draft;
 use versions::VersionRecord;
 
 // Block 0: word 1 is the slots, word 2 the current version, word 3 the oldest open version; the 123 words from 4 on are zero.
@@ -20,43 +22,41 @@ const FILLER_PLACE: usize = 4;
 const FILLER_WORDS: usize = 123;
 
 // Refusal 16 of a header. Current was a word of 32 bits, so that 1 taken off it cannot overflow.
-pub fn header_wrong(block: &[u8]) -> bool
-    requires { length block.now ≡ block_bytes }
+pub fn header_wrong(block: &[u8; BLOCK_BYTES]) -> bool
     ensures { result ≡ header_wrong block.now }
 {
     let number = blocks_words::word_at(block, blocks_words::NUMBER_PLACE);
     let slots = blocks_words::word_at(block, SLOTS_PLACE) as usize;
-    let current = blocks_words::word_at(block, CURRENT_PLACE) as i64;
-    let oldest = blocks_words::word_at(block, OLDEST_PLACE) as i64;
+    let current = i64::from(blocks_words::word_at(block, CURRENT_PLACE));
+    let oldest = i64::from(blocks_words::word_at(block, OLDEST_PLACE));
     (number != 0)
-        | !((1 <= slots) & (slots <= table::MOST_SLOTS))
-        | !((1 <= current) & (current <= VersionRecord::LARGEST))
-        | !((oldest == 0) | (oldest == current - 1) | (oldest == current))
+        | !(1..=table::MOST_SLOTS).contains(&slots)
+        | !(1..=VersionRecord::LARGEST).contains(&current)
+        | ![0, current - 1, current].contains(&oldest)
         | blocks_words::is_nonzero(block, FILLER_PLACE, FILLER_WORDS)
 }
 
 // What word 3 of a header that is not refused is read as: a 0 there is current - 1, or 1 if current is 1.
+#[tactic(auto, unfolding(crate::specs::HeaderFields::oldest_of))]
 pub fn oldest_of(current: u32, word: u32) -> i64
     requires { 1 ≤ current }
     ensures { result ≡ oldest_of (pos current) (pos word) }
 {
-    if word != 0 {
-        return word as i64;
+    match (word, current) {
+        (0, 1) => 1,
+        (0, _) => i64::from(current - 1),
+        _ => i64::from(word),
     }
-    if current == 1 {
-        return 1;
-    }
-    (current - 1) as i64
 }
 
 // The block of a header. Its number and its filler are zero, and stand already.
-pub fn header_block(slots: u32, current: u32, oldest: u32) -> [u8; 512]
+#[tactic(auto, using(crate::specs::HeaderFieldLaws::header_written))]
+pub fn header_block(slots: u32, current: u32, oldest: u32) -> [u8; BLOCK_BYTES]
     ensures { result ≡ block_of (header_words slots current oldest) }
 {
-    let mut block = [0u8; 512];
-    let first = blocks_words::write_word(&mut block, SLOTS_PLACE, slots, 0);
-    let second = blocks_words::write_word(&mut block, CURRENT_PLACE, current, first);
-    let check = blocks_words::write_word(&mut block, OLDEST_PLACE, oldest, second);
-    blocks_words::put_word(&mut block, blocks_words::CHECK_PLACE, check);
-    block
+    let mut draft = Draft::new();
+    draft.write_word(SLOTS_PLACE, slots);
+    draft.write_word(CURRENT_PLACE, current);
+    draft.write_word(OLDEST_PLACE, oldest);
+    draft.finish()
 }

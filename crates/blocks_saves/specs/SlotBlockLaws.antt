@@ -1,24 +1,22 @@
 -- How a block of slots is made: slot after slot behind its number, unless one is broken. A slot is sixteen halves and a word is two
 -- of them, so each half has its place. Assumes nothing.
-use Rattle.std.specs.Prelude.{◌≡◌, true, false, ℕ, zero, suc, ◌+◌, ◌*◌, ◌<◌, ℤ, pos, length, get_or}
-use Rattle.std.proofs.Math.Path.{refl}
+use Rattle.std.specs.Prelude.{◌≡◌, true, false, ℕ, zero, suc, ◌+◌, ◌*◌, ◌<◌, List, [], ◌∷◌, ◌++◌, ℤ, pos, length, get_or, Some, None, refl}
 use Rattle.std.proofs.Common.{ap, ◌∙◌, add-zero, add-suc, suc-add, add-one, arith, of_z}
-use mathlib.Core.List.{List, [], ◌∷◌, ◌++◌, flat_map}
-use Rattle.std.proofs.lemmas.List.Edits.{sets}
+use Rattle.std.specs.List.{flat_map}
 use Rattle.std.specs.Int.{w64}
+use Rattle.refusals.specs.declared.Refusal.TheVariants as refusal
 use Rattle.laws.specs.FirstLaws.{hit, skip, done}
 use Rattle.laws.specs.First.{first}
 use Rattle.laws.specs.LowestLaws.{some_yes, all_fail, none_passes}
 use Rattle.laws.specs.DigitLaws.{EachBelow, digits-below}
-use Rattle.laws.specs.Digits.{digits}
 use Rattle.versions.specs.declared.VersionRecord.{VersionRecord}
 use Rattle.table.specs.declared.Slot.{Slot}
 use Rattle.table.specs.Slots.{slot_words, words_of, slot_at, empty}
 use Rattle.table_forms.specs.Formed.{broken}
-use Rattle.blocks_words.specs.Words.{check_place, byte_base, word_bytes, word_base, block_of}
+use Rattle.blocks_words.specs.Words.{word_base, block_of}
 use Rattle.blocks_words.specs.Groups.{groups_length, groups_at, groups_below}
-use Rattle.blocks_words.specs.FollowLaws.{whole}
-use Rattle.blocks_words.specs.Follows.{FollowedBy, Follow}
+use Rattle.blocks_words.specs.declared.drafts.Draft.{Draft}
+use Rattle.blocks_words.specs.Follows.{FollowedBy, Follow, Finished}
 use Rattle.blocks_words.specs.Longs.{block_slots, slot_halves, halves, halves_of}
 use Rattle.blocks_loads.specs.LoadedSlots.{first_slot, slot_filler_words}
 use Rattle.blocks_saves.specs.SlotBlocks.{slots_from, slot_block_words, block_broken, slot_tests}
@@ -28,7 +26,7 @@ slot_in_halves : Slot → List ℕ
 slot_in_halves x = flat_map halves (words_of x)
 
 slot_in_halves_length : (x : Slot) → length (slot_in_halves x) ≡ slot_halves
-unfolding slot_in_halves flat_map
+unfolding slot_in_halves
 slot_in_halves_length x = refl
 
 slot_in_halves_below : (x : Slot) → EachBelow word_base (slot_in_halves x)
@@ -52,7 +50,7 @@ slots_at_at t from (suc n) zero h = rw add-zero
 slots_at_at t from (suc n) (suc j) h = rw (add-suc, ← suc-add) (slots_at_at t (suc from) n j (omega arith))
 
 slots_from_groups : (t : List ℤ) (from n : ℕ) → slots_from t from n ≡ flat_map slot_in_halves (slots_at t from n)
-unfolding flat_map slots_at slot_in_halves
+unfolding slots_at slot_in_halves
 slots_from_groups t from zero = refl
 slots_from_groups t from (suc n) = rw (slots_from_groups t (suc from) n)
 
@@ -85,27 +83,26 @@ half_at t from m j n h a b c =
 abbrev pub numbered : List ℤ → ℕ → ℕ → List ℕ
 numbered t k n = k ∷ slots_from t (first_slot k) n
 
-module _ (t : List ℤ) (k n : ℕ) {block : List ℕ} {check : ℕ} (w : FollowedBy (numbered t k n) block check) where
+module _ (t : List ℤ) (k n : ℕ) {draft : Draft} (w : FollowedBy (numbered t k n) draft) where
   -- one slot more
-  pub slot-written : {block' : List ℕ} {check' : ℕ}
-      → Follow (n * slot_halves + 1) block check (halves_of (words_of (slot_at t (first_slot k + n)))) block' check' → FollowedBy (numbered t k (n + 1)) block' check'
+  pub slot-written : {draft' : Draft} → Follow (n * slot_halves + 1) draft (halves_of (words_of (slot_at t (first_slot k + n)))) draft' → FollowedBy (numbered t k (n + 1)) draft'
   slot-written f =
       rw (add-one, slots_from_more t (first_slot k) n) (f.after (numbered t k n) (omega (arith, slots_from-length t (first_slot k) n)) w)
 
   -- all seven, and the check
-  pub slots_whole : n ≡ block_slots → sets block (check_place * word_bytes) (digits byte_base word_bytes check) ≡ block_of (slot_block_words t k)
+  pub slots_whole : {block : List ℕ} → n ≡ block_slots → Finished draft block → block ≡ block_of (slot_block_words t k)
   unfolding slot_block_words
-  slots_whole e = whole (numbered t k block_slots) slot_filler_words refl (rw e at w)
+  slots_whole e f = f.whole (numbered t k block_slots) slot_filler_words refl (rw e at w)
 
 -- and refusal 6: a broken one is enough, and where none is it is not given
 module _ (t : List ℤ) (v : VersionRecord) (k : ℕ) where
-  pub slot-broken : (j : ℕ) → j < block_slots → broken (slot_at t (first_slot k + j)) v ≡ true → first (slot_tests t v k) ≡ 6
+  pub slot-broken : (j : ℕ) → j < block_slots → broken (slot_at t (first_slot k + j)) v ≡ true → first (slot_tests t v k) ≡ Some refusal.BrokenSlot
   unfolding block_broken
   slot-broken j h b = hit [] (some_yes _ block_slots j h b)
 
-  pub none-broken : ((j : ℕ) → j < block_slots → broken (slot_at t (first_slot k + j)) v ≡ false) → first (slot_tests t v k) ≡ 0
+  pub none-broken : ((j : ℕ) → j < block_slots → broken (slot_at t (first_slot k + j)) v ≡ false) → first (slot_tests t v k) ≡ None
   unfolding block_broken
-  none-broken f = skip 6 [] (all_fail _ block_slots f) ∙ done
+  none-broken f = skip refusal.BrokenSlot [] (all_fail _ block_slots f) ∙ done
 
   pub block_formed : block_broken t v k ≡ false → (j : ℕ) → j < block_slots → broken (slot_at t (first_slot k + j)) v ≡ false
   unfolding block_broken

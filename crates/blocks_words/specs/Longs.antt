@@ -1,6 +1,7 @@
 -- A signed 64-bit word in a block, as two halves, and a slot, as sixteen: how each is written and read. RULES.md, Blocks. Assumes
 -- nothing.
-use Rattle.std.specs.Prelude.{ℕ, ◌+◌, ◌*◌, List, [], ◌∷◌, ◌++◌, ℤ}
+use Rattle.std.specs.Prelude.{ℕ, ◌+◌, ◌*◌, List, [], ◌∷◌, ℤ}
+use Rattle.std.specs.List.{flat_map}
 use Rattle.std.specs.Int.{w64}
 use Rattle.std.proofs.Common.{of_z, to_z}
 use Rattle.laws.specs.Digits.{digits, number}
@@ -25,8 +26,7 @@ abbrev pub halves : ℤ → List ℕ
 halves z = digits word_base 2 (of_z w64 z)
 
 abbrev pub halves_of : List ℤ → List ℕ
-halves_of [] = []
-halves_of (z ∷ zs) = halves z ++ halves_of zs
+halves_of zs = flat_map halves zs
 
 -- ---- from words
 -- the 64-bit word of the halves at a place

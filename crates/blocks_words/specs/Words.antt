@@ -1,6 +1,7 @@
 -- A block as 128 unsigned 32-bit words, little-endian, the last of them the check; and as 512 bytes. RULES.md, Blocks. Assumes
 -- nothing.
-use Rattle.std.specs.Prelude.{ℕ, zero, suc, ◌+◌, ◌*◌, ◌%◌, Bool, not, List, [], ◌∷◌, ◌++◌, length, replicate, ◌==◌, slice_index}
+use Rattle.std.specs.Prelude.{ℕ, zero, suc, ◌+◌, ◌*◌, ◌%◌, Bool, not, List, [], ◌∷◌, ◌++◌, length, sum, replicate, ◌==◌, slice_index}
+use Rattle.std.specs.List.{flat_map}
 use Rattle.laws.specs.Digits.{digits, number}
 use Rattle.laws.specs.Lowest.{some}
 
@@ -30,17 +31,11 @@ word_base = 4294967296
 -- ---- words to bytes
 -- the bytes of words, low byte first
 unfoldable pub bytes_of : List ℕ → List ℕ
-bytes_of [] = []
-bytes_of (w ∷ ws) = digits byte_base word_bytes w ++ bytes_of ws
-
--- the total of words
-abbrev pub total : List ℕ → ℕ
-total [] = 0
-total (w ∷ ws) = w + total ws
+bytes_of ws = flat_map (digits byte_base word_bytes) ws
 
 -- a block of the words 0 to 126: the check is their total, wrapping at 2^32
 unfoldable pub block_of : List ℕ → List ℕ
-block_of ws = bytes_of (ws ++ (total ws % word_base ∷ []))
+block_of ws = bytes_of (ws ++ (sum ws % word_base ∷ []))
 
 -- what a refused save hands out
 abbrev pub zero_block : List ℕ

@@ -1,7 +1,7 @@
 -- How a session is carried from one write to the next: every session that stood before stands after as the bytes that were handed on
 -- have led it, with its replies written out. `steps_lines/specs/LineSessionLaws.since_written` says that nothing but the replies
 -- differs from the session that keeps them, and that what was written before stands in front of them. Assumes nothing.
-use Rattle.std.specs.Prelude.{◌≡◌, Bool, true, cond, List, ℕ, ℤ, take}
+use Rattle.std.specs.Prelude.{◌≡◌, Bool, cond, List, ℕ, ℤ, take}
 use Rattle.steps_lines.specs.declared.Progress.{Progress}
 use Rattle.steps_lines.specs.LineSessions.{LineSession, fresh_session, written_out, after_bytes, finished}
 use Rattle.steps_lines.specs.Standing.{StandsFor}
@@ -25,10 +25,8 @@ module _ {size : ℕ} (p : Progress size) where
 abbrev pub at_end : Bool → LineSession → LineSession
 at_end taken s = cond taken (finished s) s
 
--- from a fresh start: the table is left as some bytes lead it, to the end of the last line or to a write that failed; where none
--- failed, to the end
-pub record CarriedAll (t t' : List ℤ) (none_failed : Bool) : Type 0 where
+-- from a fresh start: the table is left as some bytes lead it, to the end of the last line or to a write that failed
+pub record CarriedAll (t t' : List ℤ) : Type 0 where
   pub bytes : List ℕ
   pub taken : Bool
-  pub all : none_failed ≡ true → taken ≡ true
   pub words : t' ≡ (at_end taken (after_bytes (fresh_session t) bytes)).words

@@ -1,10 +1,9 @@
 -- How a session goes on being carried: over no bytes it stands as it stood, over bytes after bytes as over all of them, and at the
 -- end as if its replies had not been written out before. Assumes nothing.
-use Rattle.std.specs.Prelude.{◌≡◌, refl, Bool, true, false, List, [], ◌++◌, ℕ, ℤ, length, take, drop}
+use Rattle.std.specs.Prelude.{◌≡◌, true, false, List, [], ◌++◌, ℕ, ℤ, length, take, drop}
 use Rattle.std.proofs.Common.{ap, sym, ◌∙◌, append_assoc}
 use Rattle.std.proofs.lemmas.List.{take-append-drop}
 use Rattle.std.proofs.Math.Seq.{take-append_seam}
-use Rattle.laws.specs.TestLaws.{clash}
 use Rattle.arrayvec.specs.ArrayString.{ArrayString}
 use Rattle.steps_lines.specs.declared.Progress.{Progress}
 use Rattle.steps_lines.specs.LineSessions.{LineSession, fresh_session, written_out, after_bytes, finished}
@@ -47,17 +46,16 @@ part_over input front rest count e =
 
 -- at the end it is as if the replies had not been written out
 module _ {size : ℕ} {t : List ℤ} {p p' : Progress size} (w : StandsFor (fresh_session t) p) (a : CarriedSome p p') where
-  pub all_carried : {last end : Progress size} {ok : Bool} → ((s : LineSession) → StandsFor s p' → StandsFor (finished s) last) → Carried last [] end
-      → CarriedAll t end.table ok
+  pub all_carried : {last end : Progress size} → ((s : LineSession) → StandsFor s p' → StandsFor (finished s) last) → Carried last [] end
+      → CarriedAll t end.table
   all_carried finish out =
       let s = after_bytes (fresh_session t) a.bytes in
       record {
         bytes = a.bytes;
         taken = true;
-        all = λ e. refl;
         words = (rw (no_bytes (finished (written_out s))) at ((out.stands _ (finish _ (a.carried.stands _ w))).words)) ∙ ap (λ u. u.words) (written_last s);
       }
 
   -- or a write failed before
-  pub cut_off : {ok : Bool} → ok ≡ false → CarriedAll t p'.table ok
-  cut_off failed = record { bytes = a.bytes; taken = false; all = λ e. clash e failed; words = (a.carried.stands _ w).words }
+  pub cut_off : CarriedAll t p'.table
+  cut_off = record { bytes = a.bytes; taken = false; words = (a.carried.stands _ w).words }

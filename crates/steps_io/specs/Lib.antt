@@ -1,2 +1,4 @@
 pub mod Carried
 pub mod CarriedLaws
+pub mod Streams
+pub mod StreamLaws

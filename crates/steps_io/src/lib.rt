@@ -1,8 +1,9 @@
 // The work of the program `steps`: a table of 8 slots and a record, both fresh; standard input is read, its lines are answered by
 // `steps_lines`, and the replies are written when there is no room for more, and before the next read, so that whoever waits for a
 // reply has it. From one write to the next a session is carried: the table, the record and the kept bytes of the line are those to
-// which the bytes handed on have led it, and its replies are written out. What no contract says is what std's two calls do at the
-// standard streams: which bytes `read` gives, and that `write_all` writes what it is handed.
+// which the bytes handed on have led it, and its replies are written out. Where it is known what a source has left and what a sink
+// holds, and no write fails, what is written is what is answered to what was read. What no contract says is what std's two calls do at
+// the standard streams: which bytes `read` gives, and that `write_all` writes what it is handed.
 #![tactic(auto)]
 
 use std::io;
@@ -23,16 +24,19 @@ struct Steps<W> {
 }
 
 impl<W: Write> Steps<W> {
-    ghost use Rattle.std.specs.Prelude.{◌≡◌, [], List, ℤ, take, is_ok, IfOk, OnOk, OnErr};
+    ghost use Rattle.std.specs.Prelude.{◌≡◌, [], List, ℤ, take, IfOk, OnOk, OnErr};
+    ghost use Rattle.std.specs.Io.KnownBytes.{Appends, Consumes};
     ghost use Rattle.steps_lines.specs.LineSessions.{fresh_session};
     ghost use Rattle.steps_lines.specs.Standing.{StandsFor};
     ghost use Rattle.steps_io.specs.Carried.{Carried, CarriedFront, CarriedSome, CarriedAll};
+    ghost use Rattle.steps_io.specs.Streams.{Written, Streamed, AnsweredAll};
 
     // The replies that wait are written, and none waits.
     #[tactic(auto, using(crate::specs::CarriedLaws::replies_written))]
     fn write_replies(&mut self) -> io::Result<()>
         ensures ready { self.new.progress.replies.bytes ≡ [] }
         ensures carried { Carried self.old.progress [] self.new.progress }
+        ensures written { OnOk result (Appends (W.contents self.old.sink) (W.contents self.new.sink) self.old.progress.replies.bytes) }
     {
         let written = self
             .sink
@@ -47,6 +51,7 @@ impl<W: Write> Steps<W> {
         ensures ready { self.new.progress.replies.bytes ≡ [] }
         ensures all { OnOk result (Carried self.old.progress input.now self.new.progress) }
         ensures front { OnErr result (CarriedFront self.old.progress input.now self.new.progress) }
+        ensures written { OnOk result (Written self.old.progress (W.contents self.old.sink) input.now (W.contents self.new.sink)) }
     {
         let mut rest = input;
         while !rest.is_empty() {
@@ -63,6 +68,9 @@ impl<W: Write> Steps<W> {
         ensures ready { self.new.progress.replies.bytes ≡ [] }
         ensures all { IfOk result (λ got. Carried self.old.progress (take got input.new) self.new.progress) }
         ensures front { OnErr result (CarriedFront self.old.progress input.new self.new.progress) }
+        ensures written { IfOk result (λ got. Written self.old.progress (W.contents self.old.sink) (take got input.new)
+            (W.contents self.new.sink)) }
+        ensures read { IfOk result (λ got. Consumes (R.remaining source.old) (R.remaining source.new) (take got input.new)) }
     {
         let got = source.read(input).unwrap_or(0);
         self.take_input(&input[..got])?;
@@ -70,11 +78,13 @@ impl<W: Write> Steps<W> {
     }
 
     // Reads until one gives nothing. A proved loop has to end, and nothing says that the input does: no input has so many bytes.
-    #[tactic(auto, using(crate::specs::CarriedLaws::carried_none, crate::specs::CarriedLaws::some_on))]
+    #[tactic(auto, using(crate::specs::StreamLaws::read_by_read))]
     fn take_all<R: Read>(&mut self, source: &mut R) -> io::Result<()>
         requires { self.old.progress.replies.bytes ≡ [] }
         ensures ready { self.new.progress.replies.bytes ≡ [] }
         ensures carried { CarriedSome self.old.progress self.new.progress }
+        ensures streamed { OnOk result (Streamed self.old.progress (R.remaining source.old) (W.contents self.old.sink)
+            self.new.progress (R.remaining source.new) (W.contents self.new.sink)) }
     {
         let mut input = [0; INPUT_BYTES];
         for _ in 0..u64::MAX {
@@ -86,10 +96,13 @@ impl<W: Write> Steps<W> {
     }
 
     // All lines; the last one where all replies before it were written.
-    #[tactic(auto, using(crate::specs::CarriedLaws::all_carried, crate::specs::CarriedLaws::cut_off))]
+    #[tactic(auto, using(crate::specs::StreamLaws::over_all))]
     fn answer_all<R: Read>(&mut self, source: &mut R) -> io::Result<()>
         requires { self.old.progress.replies.bytes ≡ [] }
-        ensures { (t : List ℤ) → StandsFor (fresh_session t) self.old.progress → CarriedAll t self.new.progress.table (is_ok result) }
+        ensures carried { (t : List ℤ) → StandsFor (fresh_session t) self.old.progress → CarriedAll t self.new.progress.table }
+        ensures answered { OnOk result ((t : List ℤ) → StandsFor (fresh_session t) self.old.progress
+            → AnsweredAll t (R.remaining source.old) (W.contents self.old.sink) self.new.progress.table
+            (R.remaining source.new) (W.contents self.new.sink)) }
     {
         self.take_all(source)?;
         self.progress.end_last();

@@ -67,3 +67,8 @@ written_between s front rest = ap written_out (sym (since_written (after_bytes s
 pub written_last : (s : LineSession) → written_out (finished (written_out s)) ≡ written_out (finished s)
 unfolding finished ended
 written_last s = by_test (eqb (length s.line) 0) (λ y. rw y refl) (λ n. rw n refl)
+
+pub since_written_last : (s : LineSession) → finished s ≡ behind s.output (finished (written_out s))
+unfolding finished
+since_written_last s =
+    by_test (eqb (length s.line) 0) (λ y. rw y (simp append-nil)) (λ n. rw n (ap ended (simp append-nil) ∙ ended-behind s.output (written_out s)))

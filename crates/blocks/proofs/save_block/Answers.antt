@@ -1,31 +1,28 @@
 -- `blocks::save_block`: the refusal of the tests before 6 (`stop`), or past them (`pass`) what is handed out of its slots.
 -- Assumes nothing.
-use Rattle.std.proofs.Common.{sym, ◌∙◌}
+use Rattle.std.proofs.lemmas.Result.{err_from_is_err_and}
+use Rattle.refusals.specs.declared.Refusal.TheVariants as refusal
 use Rattle.laws.specs.FirstLaws.{none, pass, stop}
-use Rattle.blocks_saves.specs.HandedOutLaws.{zeros_handed}
 use Rattle.blocks.specs.BlockTests.{block_tests}
-use Rattle.blocks.specs.FrontLaws.{within}
-use Rattle.blocks.specs.SaveBlock.{save_block_refusal}
-use Rattle.blocks.specs.ContractLaws.{block_saved}
+use Rattle.blocks.specs.FrontLaws.{within, given, not_given}
+use Rattle.blocks.specs.SaveBlock.{save_block_refusal, saved_block, save_block_answer}
+use Rattle.blocks.specs.ContractLaws.{block_not_saved}
 use Rattle.blocks.proofs.save_block.Goals as goal
 
-pub returns-then-refusal-ne0 : goal.returns-then-refusal-ne0
+pub returns-in_err-test_block : goal.returns-in_err-test_block
 unfolding save_block_refusal
-returns-then-refusal-ne0 c =
-    block_saved
-    (stop (block_tests _ _ c.args.number) _ _ (sym c.block_refusal-refusal.ensures) c.if-refusal-ne0.true)
-    (zeros_handed _ c.refused.ensures c.if-refusal-ne0.true)
+returns-in_err-test_block c =
+    let p = err_from_is_err_and c.from_residual.result c.from_residual.ensures.1 in
+    rw (p.1, p.2) (block_not_saved (stop (block_tests _ _ c.args.number) _ _ (given _ c.test_block.ensures c.in_err-test_block.was)))
 
 pub save_slots-requires-clause-within : goal.save_slots-requires-clause-within
-save_slots-requires-clause-within c = within _ _ _ (sym c.block_refusal-refusal.ensures ∙ c.if-refusal-ne0.false)
+save_slots-requires-clause-within c = within _ _ _ (not_given _ c.test_block.ensures c.in_ok-test_block.was)
 
 pub save_slots-requires-clause-lawful_record : goal.save_slots-requires-clause-lawful_record
 save_slots-requires-clause-lawful_record c =
-    none (block_tests _ _ c.args.number) tt (sym c.block_refusal-refusal.ensures ∙ c.if-refusal-ne0.false) 2
+    none (block_tests _ _ c.args.number) (not_given _ c.test_block.ensures c.in_ok-test_block.was) refusal.BadRecord
 
 pub returns : goal.returns
-unfolding save_block_refusal
+unfolding save_block_refusal saved_block save_block_answer
 returns c =
-    block_saved
-    (pass (block_tests _ _ c.args.number) _ tt (sym c.block_refusal-refusal.ensures ∙ c.if-refusal-ne0.false))
-    c.save_slots.ensures
+    record { answer = rw (pass (block_tests _ _ c.args.number) _ (not_given _ c.test_block.ensures c.in_ok-test_block.was)) c.save_slots.ensures }

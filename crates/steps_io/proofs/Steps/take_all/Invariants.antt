@@ -1,11 +1,14 @@
 -- `steps_io::Steps::take_all`: the loop's invariant is that no reply waits, and that a session that stood stands where the bytes of the
--- reads so far have led it. Assumes nothing.
+-- reads so far have led it, with what was answered to them written. Assumes nothing.
 use Rattle.std.proofs.Common.{◌≡◌, []}
 use Rattle.steps_io.specs.Carried.{CarriedSome}
+use Rattle.steps_io.specs.Streams.{Streamed}
 use Rattle.steps_io.proofs.Steps.take_all.Given as goal
 
 abbrev pub invariant-loop : goal.invariant-loop
 invariant-loop g l = record {
   ready : l.self.progress.replies.bytes ≡ [];
   carried : CarriedSome l.fn.self.progress l.self.progress;
+  streamed : Streamed l.fn.self.progress (g.R.Read.remaining l.fn.source) (g.W.Write.contents l.fn.self.sink)
+      l.self.progress (g.R.Read.remaining l.source) (g.W.Write.contents l.self.sink);
 }

@@ -3,10 +3,11 @@
 use Rattle.std.proofs.Common.{[], ◌++◌, take, refl, rules}
 use borrow.Author.Rules.{part_to_end}
 use Rattle.steps_io.specs.CarriedLaws.{carried_none, taken_and_written, carried_on, front_of, part_over}
+use Rattle.steps_io.specs.StreamLaws.{none_written, replies_out, written_on}
 use Rattle.steps_io.proofs.Steps.take_input.Goals as goal
 
 pub loop-rest-init : goal.loop-rest-init
-loop-rest-init g c = record { front = []; whole = refl; ready = c.requires; carried = carried_none c.requires }
+loop-rest-init g c = record { front = []; whole = refl; ready = c.requires; carried = carried_none c.requires; written = none_written _ c.requires }
 
 pub returns-in_err-write_replies-clause-front : goal.returns-in_err-write_replies-clause-front
 returns-in_err-write_replies-clause-front g c =
@@ -25,4 +26,6 @@ loop-rest-preserved g c =
       whole = rw part_to_end (part_over _ _ c.loop-rest.rest.now c.take_bytes-count.result c.loop-rest.invariant.whole);
       ready = c.write_replies.ensures.ready;
       carried = carried_on c.loop-rest.invariant.front part c.loop-rest.invariant.carried turn;
+      written = written_on c.loop-rest.invariant.front part c.loop-rest.invariant.carried c.loop-rest.invariant.written
+          (replies_out c.take_bytes-count.ensures.stands_for (rw c.in_ok-write_replies.was at c.write_replies.ensures.written));
     }

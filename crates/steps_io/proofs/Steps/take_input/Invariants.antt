@@ -1,7 +1,8 @@
 -- `steps_io::Steps::take_input`: the loop's invariant is that the bytes before `rest` are handed on, and a session that stood stands
--- where they led it, with no reply that waits. The measure is how many are left. Assumes nothing.
+-- where they led it, with no reply that waits and all of them written. The measure is how many are left. Assumes nothing.
 use Rattle.std.proofs.Common.{◌≡◌, List, [], ◌++◌, ℕ, length}
 use Rattle.steps_io.specs.Carried.{Carried}
+use Rattle.steps_io.specs.Streams.{Written}
 use Rattle.steps_io.proofs.Steps.take_input.Given as goal
 
 abbrev pub invariant-loop-rest : goal.invariant-loop-rest
@@ -10,6 +11,7 @@ invariant-loop-rest g l = record {
   whole : l.input ≡ front ++ l.rest;
   ready : l.self.progress.replies.bytes ≡ [];
   carried : Carried l.fn.self.progress front l.self.progress;
+  written : Written l.fn.self.progress (g.W.Write.contents l.fn.self.sink) front (g.W.Write.contents l.self.sink);
 }
 
 abbrev pub decreases-loop-rest : goal.decreases-loop-rest

@@ -1,0 +1,66 @@
+-- How what is written goes on: what is answered to bytes after bytes stands behind what was answered before, and at the end what is
+-- answered to the last line. Assumes nothing.
+use Rattle.std.specs.Prelude.{◌≡◌, List, [], ◌++◌, ℕ, ℤ, Option}
+use Rattle.std.proofs.Common.{ap, ◌∙◌, subst}
+use Rattle.std.proofs.KnownBytes.{Appends-nil, Appends-trans, Consumes-nil, Consumes-trans}
+use Rattle.std.specs.Io.KnownBytes.{Appends, Consumes}
+use Rattle.steps_lines.specs.declared.Progress.{Progress}
+use Rattle.steps_lines.specs.LineSessions.{LineSession, fresh_session, written_out, after_bytes, finished}
+use Rattle.steps_lines.specs.LineSessionLaws.{no_bytes, in_turn, since_written, since_written_last, written_last}
+use Rattle.steps_lines.specs.Standing.{StandsFor}
+use Rattle.steps_io.specs.Carried.{Carried}
+use Rattle.steps_io.specs.CarriedLaws.{carried_none, carried_on, some_on, all_carried, cut_off}
+use Rattle.steps_io.specs.Streams.{Written, Streamed, AnsweredAll}
+
+module _ {size : ℕ} {p : Progress size} where
+  -- nothing
+  pub none_written : (sink : Option (List ℕ)) → p.replies.bytes ≡ [] → Written p sink [] sink
+  none_written sink e = record { output = λ s w. rw (no_bytes s, ← w.output, e) (Appends-nil sink) }
+
+  -- what waits then
+  pub replies_out : {p' : Progress size} {sink sink' : Option (List ℕ)} {bytes : List ℕ} → ((s : LineSession) → StandsFor s p → StandsFor (after_bytes s bytes) p')
+      → Appends sink sink' p'.replies.bytes → Written p sink bytes sink'
+  replies_out {sink = sink} {sink' = sink'} taken out = record { output = λ s w. subst (Appends sink sink') (taken s w).output out }
+
+  -- and what is answered to more
+  pub written_on : {p' : Progress size} {sink sink' sink'' : Option (List ℕ)} (front rest : List ℕ)
+      → Carried p front p' → Written p sink front sink' → Written p' sink' rest sink'' → Written p sink (front ++ rest) sink''
+  written_on {sink = sink} {sink' = sink'} {sink'' = sink''} front rest a b more = record {
+    output = λ s w.
+        let before = after_bytes s front in
+        let all : (after_bytes s (front ++ rest)).output ≡ before.output ++ (after_bytes (written_out before) rest).output =
+        ap (λ u. u.output) (in_turn s front rest ∙ since_written before rest) in
+        rw all (Appends-trans sink sink' sink'' _ _ (b.output s w) (more.output _ (a.stands s w)));
+  }
+
+  pub none_streamed : (source sink : Option (List ℕ)) → p.replies.bytes ≡ [] → Streamed p source sink p source sink
+  none_streamed source sink e = record { bytes = []; carried = carried_none e; read = Consumes-nil source; written = none_written sink e }
+
+  pub streamed_on : {p' p'' : Progress size} {source source' source'' sink sink' sink'' : Option (List ℕ)} {bytes : List ℕ} → Streamed p source sink p' source' sink'
+      → Carried p' bytes p'' → Written p' sink' bytes sink'' → Consumes source' source'' bytes → Streamed p source sink p'' source'' sink''
+  streamed_on {source = source} {source' = source'} {source'' = source''} {bytes = bytes} a c more read = record {
+    bytes = a.bytes ++ bytes;
+    carried = carried_on a.bytes bytes a.carried c;
+    read = Consumes-trans source source' source'' a.bytes bytes a.read read;
+    written = written_on a.bytes bytes a.carried a.written more;
+  }
+
+-- the last line
+pub all_answered : {size : ℕ} {t : List ℤ} {p p' last end : Progress size} {source source' sink sink' sink'' : Option (List ℕ)} → StandsFor (fresh_session t) p
+    → Streamed p source sink p' source' sink' → ((s : LineSession) → StandsFor s p' → StandsFor (finished s) last) → Carried last [] end
+    → Appends sink' sink'' last.replies.bytes → AnsweredAll t source sink end.table source' sink''
+all_answered {t} {source = source} {sink = sink} {sink' = sink'} {sink'' = sink''} w a finish out appended =
+    let s = after_bytes (fresh_session t) a.bytes in
+    let stood = finish _ (a.carried.stands _ w) in
+    record {
+      bytes = a.bytes;
+      words = (rw (no_bytes (finished (written_out s))) at ((out.stands _ stood).words)) ∙ ap (λ u. u.words) (written_last s);
+      read = a.read;
+      written = rw (ap (λ u. u.output) (since_written_last s))
+          (Appends-trans sink sink' sink'' _ _ (a.written.output _ w) (subst (Appends sink' sink'') stood.output appended));
+    }
+
+-- over reads in turn, and over all
+pub ruleset read_by_read = (carried_none, some_on, none_streamed, streamed_on)
+
+pub ruleset over_all = (all_carried, cut_off, all_answered)

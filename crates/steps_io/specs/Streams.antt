@@ -1,0 +1,26 @@
+-- What is read and written, where that is known: the bytes that were handed on are those that the source gave, and what was answered
+-- to them stands behind what the sink held. Assumes nothing.
+use Rattle.std.specs.Prelude.{◌≡◌, List, ℕ, ℤ, Option}
+use Rattle.std.specs.Io.KnownBytes.{Appends, Consumes}
+use Rattle.steps_lines.specs.declared.Progress.{Progress}
+use Rattle.steps_lines.specs.LineSessions.{LineSession, fresh_session, after_bytes, finished}
+use Rattle.steps_lines.specs.Standing.{StandsFor}
+use Rattle.steps_io.specs.Carried.{Carried}
+
+-- what was answered to some bytes was written
+pub record Written {size : ℕ} (p : Progress size) (sink : Option (List ℕ)) (bytes : List ℕ) (sink' : Option (List ℕ)) : Type 0 where
+  pub output : (s : LineSession) → StandsFor s p → Appends sink sink' (after_bytes s bytes).output
+
+-- what was read was handed on, and answered
+pub record Streamed {size : ℕ} (p : Progress size) (source sink : Option (List ℕ)) (p' : Progress size) (source' sink' : Option (List ℕ)) : Type 0 where
+  pub bytes : List ℕ
+  pub carried : Carried p bytes p'
+  pub read : Consumes source source' bytes
+  pub written : Written p sink bytes sink'
+
+-- from a fresh start: so was all, the last line too
+pub record AnsweredAll (t : List ℤ) (source sink : Option (List ℕ)) (t' : List ℤ) (source' sink' : Option (List ℕ)) : Type 0 where
+  pub bytes : List ℕ
+  pub words : t' ≡ (finished (after_bytes (fresh_session t) bytes)).words
+  pub read : Consumes source source' bytes
+  pub written : Appends sink sink' (finished (after_bytes (fresh_session t) bytes)).output
