@@ -1,8 +1,10 @@
--- When a change of a whole table is refused during a run, and by which number: the tests of the shape, the record, the run and
+-- When a change of a whole table is refused during a run, and by which refusal: the tests of the shape, the record, the run and
 -- the key's slot have failed, and what is left of each list are the tests of the totals, the key and the room. And what refusal
 -- 12 says: the key has no slot, and every slot shows a row at one of the run's two versions. Assumes nothing.
-use Rattle.std.specs.Prelude.{◌≡◌, refl, Bool, true, false, not, ◌⊎◌, List, [], ◌∷◌, ◌++◌, ℕ, ◌<◌, ◌≤◌, ltb, ℤ}
+use Rattle.std.specs.Prelude.{◌≡◌, refl, Bool, true, false, not, ◌⊎◌, List, [], ◌∷◌, ◌++◌, ℕ, ◌<◌, ◌≤◌, ltb, ℤ, Some}
 use Rattle.std.proofs.Common.{sym, ap, ◌∙◌, inl, inr, ltb-true, ltb-false, le-ltb, lt_of_lt_of_le}
+use Rattle.refusals.specs.declared.Refusal.{Refusal}
+use Rattle.refusals.specs.declared.Refusal.TheVariants as refusal
 use Rattle.laws.specs.TestLaws.{by_test, clash, not_yes}
 use Rattle.laws.specs.FirstLaws.{skip, hit, under}
 use Rattle.laws.specs.First.{first}
@@ -31,18 +33,18 @@ use Rattle.changes.specs.Delete.{delete_refusal}
 
 module _ (t : List ℤ) (v : VersionRecord) (whole : Whole t v) (known : bad_record v ≡ false) (active : v.active ≡ true) where
   -- 1, 2 and 8 are not given, nor is 6
-  past8 : (l : List (Bool × ℕ)) → first (running_tests t v ++ l) ≡ first l
-  past8 l = skip 1 _ whole.shape ∙ skip 2 _ known ∙ skip 8 _ (ap not active)
+  past8 : (l : List (Bool × Refusal)) → first (running_tests t v ++ l) ≡ first l
+  past8 l = skip refusal.BadTable _ whole.shape ∙ skip refusal.BadRecord _ known ∙ skip refusal.NoRun _ (ap not active)
 
-  past6 : (key1 key2 : ℤ) (l : List (Bool × ℕ)) → first ((broken (keyed t key1 key2) v, 6) ∷ l) ≡ first l
-  past6 key1 key2 l = skip 6 l (ap not (whole.formed (key_slot t key1 key2)))
+  past6 : (key1 key2 : ℤ) (l : List (Bool × Refusal)) → first ((broken (keyed t key1 key2) v, refusal.BrokenSlot) ∷ l) ≡ first l
+  past6 key1 key2 l = skip refusal.BrokenSlot l (ap not (whole.formed (key_slot t key1 key2)))
 
   pub put_refused : (key1 key2 total1 total2 : ℤ)
-      → put_refusal t v key1 key2 total1 total2 ≡ first ((unlawful total1 total2, 13) ∷ (no_slot t v key1 key2, 12) ∷ [])
+      → put_refusal t v key1 key2 total1 total2 ≡ first ((unlawful total1 total2, refusal.BadTotal) ∷ (no_slot t v key1 key2, refusal.TableFull) ∷ [])
   unfolding put_refusal
   put_refused key1 key2 total1 total2 = past8 _ ∙ under _ _ _ (past6 key1 key2 _)
 
-  pub delete_refused : (key1 key2 : ℤ) → delete_refusal t v key1 key2 ≡ first ((not_live t key1 key2, 11) ∷ [])
+  pub delete_refused : (key1 key2 : ℤ) → delete_refusal t v key1 key2 ≡ first ((not_live t key1 key2, refusal.KeyNotLive) ∷ [])
   unfolding delete_refusal
   delete_refused key1 key2 = past8 _ ∙ past6 key1 key2 _
 
@@ -70,7 +72,7 @@ module _ (t : List ℤ) (v : VersionRecord) (whole : Whole t v) (known : bad_rec
 
   -- ---- a slot that is not free shows a row: its own at the running version, or its old one at current
   pub busy_seen : (x : Slot) → well_formed x v ≡ true → free x v ≡ false
-      → (shown (run_number v) x ≡ current_row x) ⊎ (shown v.current x ≡ old_row x)
+      → (shown (run_number v) x ≡ Some (current_row x)) ⊎ (shown v.current x ≡ Some (old_row x))
   busy_seen x w f =
       let b = busy x v w f in
       by_test (live x)
@@ -80,13 +82,13 @@ module _ (t : List ℤ) (v : VersionRecord) (whole : Whole t v) (known : bad_rec
 
 -- ---- with no run active every change is refused 8
 module _ (t : List ℤ) (v : VersionRecord) (shape : bad_table t ≡ false) (known : bad_record v ≡ false) (no_run : v.active ≡ false) where
-  given8 : (l : List (Bool × ℕ)) → first (running_tests t v ++ l) ≡ 8
-  given8 l = skip 1 _ shape ∙ skip 2 _ known ∙ hit _ (ap not no_run)
+  given8 : (l : List (Bool × Refusal)) → first (running_tests t v ++ l) ≡ Some refusal.NoRun
+  given8 l = skip refusal.BadTable _ shape ∙ skip refusal.BadRecord _ known ∙ hit _ (ap not no_run)
 
-  pub put_idle : (key1 key2 total1 total2 : ℤ) → put_refusal t v key1 key2 total1 total2 ≡ 8
+  pub put_idle : (key1 key2 total1 total2 : ℤ) → put_refusal t v key1 key2 total1 total2 ≡ Some refusal.NoRun
   unfolding put_refusal
   put_idle key1 key2 total1 total2 = given8 _
 
-  pub delete_idle : (key1 key2 : ℤ) → delete_refusal t v key1 key2 ≡ 8
+  pub delete_idle : (key1 key2 : ℤ) → delete_refusal t v key1 key2 ≡ Some refusal.NoRun
   unfolding delete_refusal
   delete_idle key1 key2 = given8 _

@@ -1,8 +1,10 @@
 -- Where the tests that every change begins with pass, the table and the record are sound; and where these are, in a run, they pass.
 -- And a list of tests that begins with them. Assumes nothing.
-use Rattle.std.specs.Prelude.{◌≡◌, Bool, false, not, List, ◌++◌, ℕ, ℤ}
+use Rattle.std.specs.Prelude.{◌≡◌, Bool, false, not, List, ◌++◌, ℤ, Option, Some, None, Err}
 use Rattle.std.proofs.Common.{ap, ◌∙◌}
-use Rattle.laws.specs.First.{first}
+use Rattle.refusals.specs.declared.Refusal.{Refusal}
+use Rattle.refusals.specs.declared.Refusal.TheVariants as refusal
+use Rattle.laws.specs.First.{first, unless}
 use Rattle.laws.specs.FirstLaws.{none, skip, done, pass, stop}
 use Rattle.versions.specs.declared.VersionRecord.{VersionRecord}
 use Rattle.versions.specs.Record.{bad_record, ActiveRun}
@@ -14,23 +16,28 @@ pub record Running (t : List ℤ) (v : VersionRecord) : Type 0 where
   pub table : bad_table t ≡ false
   pub known : bad_record v ≡ false
 
-pub running : (t : List ℤ) (v : VersionRecord) → running_refusal t v ≡ 0 → Running t v
+pub running : (t : List ℤ) (v : VersionRecord) → running_refusal t v ≡ None → Running t v
 unfolding running_refusal
 running t v h =
-    let no = none _ tt h in
-    record { table = no 1; known = no 2 }
+    let no = none _ h in
+    record { table = no refusal.BadTable; known = no refusal.BadRecord }
 
 -- and where they are, and a run is active, none of the tests applies
-pub run_passes : (t : List ℤ) (v : VersionRecord) → bad_table t ≡ false → ActiveRun v → running_refusal t v ≡ 0
+pub run_passes : (t : List ℤ) (v : VersionRecord) → bad_table t ≡ false → ActiveRun v → running_refusal t v ≡ None
 unfolding running_refusal
-run_passes t v table run = skip 1 _ table ∙ skip 2 _ run.known ∙ skip 8 _ (ap not run.active) ∙ done
+run_passes t v table run = skip refusal.BadTable _ table ∙ skip refusal.BadRecord _ run.known ∙ skip refusal.NoRun _ (ap not run.active) ∙ done
 
--- ---- a list that begins with them: one of them refuses, or it is as the tests after them say
-module _ (t : List ℤ) (v : VersionRecord) (l : List (Bool × ℕ)) where
-  pub running_stops : {n : ℕ} → running_refusal t v ≡ n → (n ≡ 0 → ⊥) → first (running_tests t v ++ l) ≡ n
-  unfolding running_refusal
-  running_stops {n} e z = stop (running_tests t v) l n e z
+-- ---- what asking them answers: one of them refuses, and so does a list that begins with them; or none does, and such a list is as
+-- the tests after them say
+refused : (m : Option Refusal) {e : Refusal} → Err e ≡ unless m (tt {0}) → m ≡ Some e
+refused (Some e) h = cc
+refused None h = cc
 
-  pub running_passes : running_refusal t v ≡ 0 → first (running_tests t v ++ l) ≡ first l
+module _ (t : List ℤ) (v : VersionRecord) (l : List (Bool × Refusal)) where
+  pub running_stops : {e : Refusal} → Err e ≡ unless (running_refusal t v) (tt {0}) → first (running_tests t v ++ l) ≡ Some e
   unfolding running_refusal
-  running_passes e = pass (running_tests t v) l tt e
+  running_stops {e} h = stop (running_tests t v) l e (refused (running_refusal t v) h)
+
+  pub running_passes : running_refusal t v ≡ None → first (running_tests t v ++ l) ≡ first l
+  unfolding running_refusal
+  running_passes h = pass (running_tests t v) l h

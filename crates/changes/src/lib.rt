@@ -8,10 +8,12 @@ ghost use Rattle.changes.specs.ChangeTests.{running_refusal};
 ghost use Rattle.changes.specs.Put.{PutContract};
 ghost use Rattle.changes.specs.Delete.{DeleteContract};
 
+use changes_cells::Given;
 use refusals::Refusal;
 use versions::VersionRecord;
 
 // The tests that begin every change's list, asked one by one: 1, 2, 8.
+#[tactic(auto, unfolding(crate::specs::ChangeTests::running_refusal, laws::specs::First::first))]
 fn asked_one_by_one(table: &[i64], versions: VersionRecord) -> Result<(), Refusal>
     ensures { result ≡ unless (running_refusal table.now versions) tt }
 {
@@ -28,6 +30,7 @@ fn asked_one_by_one(table: &[i64], versions: VersionRecord) -> Result<(), Refusa
 }
 
 // The same. In a run that is plainly active, of a table of a lawful shape, one expression tells that there is none.
+#[tactic(auto, using(crate::specs::RunningLaws::run_passes))]
 pub fn test_running(table: &[i64], versions: VersionRecord) -> Result<(), Refusal>
     ensures { result ≡ unless (running_refusal table.now versions) tt }
 {
@@ -38,6 +41,7 @@ pub fn test_running(table: &[i64], versions: VersionRecord) -> Result<(), Refusa
 }
 
 // Put: 1, 2, 8, 13, 6, 12.
+#[tactic(auto, using(laws::specs::Bits::plain, crate::specs::RunningLaws::running, crate::specs::RunningLaws::running_passes, laws::specs::FirstLaws::skip, laws::specs::FirstLaws::hit), unfolding(crate::specs::Put::put_refusal, crate::specs::Put::put_answer, crate::specs::Put::put_words))]
 pub fn put(
     table: &mut [i64],
     versions: VersionRecord,
@@ -52,11 +56,23 @@ pub fn put(
     if table_forms::is_unlawful(total1, total2) {
         return Err(Refusal::BadTotal);
     }
-    changes_rows::put_row(table, versions, key1, key2, total1, total2)
+    let given = Given {
+        key1,
+        key2,
+        total1,
+        total2,
+    };
+    changes_rows::put_row(table, versions, given)
 }
 
 // Delete: 1, 2, 8, 6, 11.
-pub fn delete(table: &mut [i64], versions: VersionRecord, key1: i64, key2: i64) -> Result<usize, Refusal>
+#[tactic(auto, using(laws::specs::Bits::plain, crate::specs::RunningLaws::running, crate::specs::RunningLaws::running_passes), unfolding(crate::specs::Delete::delete_refusal, crate::specs::Delete::delete_answer, crate::specs::Delete::delete_words))]
+pub fn delete(
+    table: &mut [i64],
+    versions: VersionRecord,
+    key1: i64,
+    key2: i64,
+) -> Result<usize, Refusal>
     ensures { DeleteContract table.old versions key1 key2 result table.new }
 {
     test_running(table, versions)?;

@@ -1,21 +1,19 @@
 -- What roll back leaves. Of a slot, by the three cases of `rolled_back`: it is well formed for the record that is left, shows the
 -- session at current what it showed, and has no key that it had not. Of a table, by its slots one after another: slot k is what is
 -- left of slot k. Of the record: it is sound. And of a call, by its refusal. Assumes nothing.
-use Rattle.std.specs.Prelude.{◌≡◌, refl, true, false, not, List, ℕ, zero, suc, ◌+◌, ◌/◌, ◌≤◌, ◌<◌, ℤ, pos, negsuc, ◌+ℤ◌, length}
+use Rattle.std.specs.Prelude.{◌≡◌, refl, true, false, not, List, ℕ, zero, suc, ◌+◌, ◌/◌, ◌≤◌, ◌<◌, ℤ, pos, negsuc, ◌+ℤ◌, length, Some, None, Result, Ok, Err}
 use Rattle.std.proofs.Common.{sym, ap, ◌∙◌, arith, leb-true, le-leb}
 use Rattle.std.specs.Int.Signed.{le_z}
 use Rattle.std.proofs.lemmas.Bool.{eqb-false}
+use Rattle.refusals.specs.declared.Refusal.{Refusal}
+use Rattle.refusals.specs.declared.Refusal.TheVariants as refusal
 use Rattle.laws.specs.TestLaws.{by_test, by_order, by_place, clash, not_no}
-use Rattle.laws.specs.FirstLaws.{unless_refused, unless-done, none, skip, hit, done}
+use Rattle.laws.specs.FirstLaws.{unless_refused, unless-done, kept_refused, kept-done, none, skip, hit, done}
 use Rattle.laws.specs.OrderLaws.{eq_z_true, le_z_refl, next-le_z, next_low, from_to_lem}
 use Rattle.laws.specs.Order.{eq_z, from_to}
 use Rattle.versions.specs.declared.VersionRecord.{VersionRecord}
 use Rattle.versions.specs.Record.{bad_record, run_number, last_run}
 use Rattle.versions.specs.RecordLaws.{sound, known}
-use Rattle.versions_runs.specs.declared.Numbered.{Numbered}
-use Rattle.versions_runs.specs.declared.Numbered.TheVariants.{Version, Refused}
-use Rattle.versions_runs.specs.declared.Turned.{Turned}
-use Rattle.versions_runs.specs.Runs.{kept_as, leaving}
 use Rattle.table.specs.declared.Slot.{Slot}
 use Rattle.table.specs.Slots.{slot_words, empty, bad_table, slots, slot_at, put_slot}
 use Rattle.table.specs.SlotLaws.{put_length, put_same, put_other, same_length, slot_at-past}
@@ -101,7 +99,7 @@ module _ (v : VersionRecord) (known : bad_record v ≡ false) (active : v.active
 
   -- a slot of the run that was not inserted shows its old totals at current
   old_shown : (x : Slot) → Used x v → eq_z x.run (run_number v) ≡ true → eq_z x.operation insert_operation ≡ false
-      → shown v.current x ≡ old_row x
+      → shown v.current x ≡ Some (old_row x)
   old_shown x u y n =
       by_test (live x)
       (λ l. live-cases x l (λ e. clash (rw e refl) n) (λ e. shown_updated v.current x (ahead x y) e))
@@ -183,27 +181,28 @@ pub record CanRollBack (t : List ℤ) (v : VersionRecord) : Type 0 where
   pub active : v.active ≡ true
   pub formed : (k : ℕ) → well_formed (slot_at t k) v ≡ true
 
-pub can_roll_back : (t : List ℤ) (v : VersionRecord) → roll_back_refusal t v ≡ 0 → CanRollBack t v
+pub can_roll_back : (t : List ℤ) (v : VersionRecord) → roll_back_refusal t v ≡ None → CanRollBack t v
 unfolding roll_back_refusal
 can_roll_back t v h =
-    let no = none _ tt h in
+    let no = none _ h in
     record {
-      shape = no 1;
-      known = no 2;
-      active = not_no (no 8);
-      formed = λ k. by_order k (slots t) (λ l. none-broken t v (no 6) k l) (λ g. rw (slot_at-past t k (no 1) g) (empty_formed v));
+      shape = no refusal.BadTable;
+      known = no refusal.BadRecord;
+      active = not_no (no refusal.NoRun);
+      formed = λ k. by_order k (slots t) (λ l. none-broken t v (no refusal.BrokenSlot) k l) (λ g. rw (slot_at-past t k (no refusal.BadTable) g) (empty_formed v));
     }
 
 -- and where it is so, it is accepted
-pub roll_back_passes : (t : List ℤ) (v : VersionRecord) → CanRollBack t v → roll_back_refusal t v ≡ 0
+pub roll_back_passes : (t : List ℤ) (v : VersionRecord) → CanRollBack t v → roll_back_refusal t v ≡ None
 unfolding roll_back_refusal
 roll_back_passes t v can =
-    skip 1 _ can.shape ∙ skip 2 _ can.known ∙ skip 8 _ (ap not can.active) ∙ skip 6 _ (all_formed t v can.formed) ∙ done
+    skip refusal.BadTable _ can.shape ∙ skip refusal.BadRecord _ can.known ∙ skip refusal.NoRun _ (ap not can.active)
+    ∙ skip refusal.BrokenSlot _ (all_formed t v can.formed) ∙ done
 
 -- with no run it is refused 8
-pub roll_back_idle : (t : List ℤ) (v : VersionRecord) → bad_table t ≡ false → bad_record v ≡ false → v.active ≡ false → roll_back_refusal t v ≡ 8
+pub roll_back_idle : (t : List ℤ) (v : VersionRecord) → bad_table t ≡ false → bad_record v ≡ false → v.active ≡ false → roll_back_refusal t v ≡ Some refusal.NoRun
 unfolding roll_back_refusal
-roll_back_idle t v shape known idle = skip 1 _ shape ∙ skip 2 _ known ∙ hit _ (ap not idle)
+roll_back_idle t v shape known idle = skip refusal.BadTable _ shape ∙ skip refusal.BadRecord _ known ∙ hit _ (ap not idle)
 
 -- ---- it leaves a whole table whole, and keys that are apart so
 module _ (t : List ℤ) (v : VersionRecord) (can : CanRollBack t v) where
@@ -223,44 +222,41 @@ module _ (t : List ℤ) (v : VersionRecord) (can : CanRollBack t v) where
       had k h = back_key v can.known can.active (slot_at t k) (can.formed k) key1 key2 (rw (back-slot t v can.shape can.known k) at h)
 
 -- ---- how the contract is shown: a refusal leaves table and record as they were; what is not refused is done
-pub roll_back_kept : {t : List ℤ} {v : VersionRecord} {n : ℕ} → roll_back_refusal t v ≡ n → (n ≡ 0 → ⊥) → RollBackContract t v (kept_as v n) t
+pub roll_back_kept : {t : List ℤ} {v : VersionRecord} {e : Refusal} → roll_back_refusal t v ≡ Some e → RollBackContract t v (Err e) t v
 unfolding roll_back_answer roll_back_record roll_back_words
-roll_back_kept {t} {v} e z = record {
-  answer = unless_refused Refused _ e z;
-  versions = unless_refused (λ n. v) _ e z;
-  words = unless_refused (λ n. t) _ e z;
+roll_back_kept {t} {v} h = record {
+  answer = unless_refused v.current h;
+  versions = kept_refused (rolled_back_from v) h refl;
+  words = kept_refused (slots_back t v (slots t)) h refl;
 }
 
-pub roll_back_done : {t t' : List ℤ} {v : VersionRecord} → roll_back_refusal t v ≡ 0 → t' ≡ slots_back t v (slots t)
-    → RollBackContract t v (leaving (Version v.current) (rolled_back_from v)) t'
+pub roll_back_done : {t t' : List ℤ} {v : VersionRecord} → roll_back_refusal t v ≡ None → t' ≡ slots_back t v (slots t)
+    → RollBackContract t v (Ok v.current) t' (rolled_back_from v)
 unfolding roll_back_answer roll_back_record roll_back_words
-roll_back_done {t} {v} e w = record { answer = unless-done Refused e refl; versions = unless-done (λ n. v) e refl; words = unless-done (λ n. t) e w }
+roll_back_done {t} {v} h w = record { answer = unless-done h refl; versions = kept-done v h refl; words = kept-done t h w }
 
 -- ---- what comes of it by its refusal
-pub record RollBackRefuses (n : ℕ) (t : List ℤ) (v : VersionRecord) (r : Numbered) (v' : VersionRecord) (t' : List ℤ) : Type 0 where
-  pub answer : r ≡ Refused n
+pub record RollBackRefuses (e : Refusal) (t : List ℤ) (v : VersionRecord) (r : Result ℤ Refusal) (v' : VersionRecord) (t' : List ℤ) : Type 0 where
+  pub answer : r ≡ Err e
   pub record_kept : v' ≡ v
   pub words : t' ≡ t
 
-pub record RollBackAccepts (t : List ℤ) (v : VersionRecord) (r : Numbered) (v' : VersionRecord) (t' : List ℤ) : Type 0 where
-  pub answer : r ≡ Version v.current
+pub record RollBackAccepts (t : List ℤ) (v : VersionRecord) (r : Result ℤ Refusal) (v' : VersionRecord) (t' : List ℤ) : Type 0 where
+  pub answer : r ≡ Ok v.current
   pub record_after : v' ≡ rolled_back_from v
   pub words : t' ≡ slots_back t v (slots t)
 
 module _ (t : List ℤ) (v : VersionRecord) where
-  pub roll_back_refuses : (n : ℕ) → roll_back_refusal t v ≡ suc n
-      → RollBackRefuses (suc n) t v (roll_back_answer t v) (roll_back_record t v) (roll_back_words t v)
+  pub roll_back_refuses : (e : Refusal) → roll_back_refusal t v ≡ Some e
+      → RollBackRefuses e t v (roll_back_answer t v) (roll_back_record t v) (roll_back_words t v)
   unfolding roll_back_answer roll_back_record roll_back_words
-  roll_back_refuses n h = record { answer = rw h; record_kept = rw h; words = rw h }
+  roll_back_refuses e h = record { answer = rw h; record_kept = rw h; words = rw h }
 
-  pub roll_back_accepts : roll_back_refusal t v ≡ 0 → RollBackAccepts t v (roll_back_answer t v) (roll_back_record t v) (roll_back_words t v)
+  pub roll_back_accepts : roll_back_refusal t v ≡ None → RollBackAccepts t v (roll_back_answer t v) (roll_back_record t v) (roll_back_words t v)
   unfolding roll_back_answer roll_back_record roll_back_words
   roll_back_accepts h = record { answer = rw h; record_after = rw h; words = rw h }
 
 -- ---- the contract allows one outcome
-pub one_outcome : {t : List ℤ} {v : VersionRecord} {r r' : Turned} {u u' : List ℤ}
-    → RollBackContract t v r u → RollBackContract t v r' u' → (r ≡ r') × (u ≡ u')
-one_outcome a b =
-    let answer = a.answer ∙ sym b.answer in
-    let versions = a.versions ∙ sym b.versions in
-    (λ i. record { answer = answer i; versions = versions i }, a.words ∙ sym b.words)
+pub one_outcome : {t : List ℤ} {v : VersionRecord} {r r' : Result ℤ Refusal} {u u' : List ℤ} {w w' : VersionRecord}
+    → RollBackContract t v r u w → RollBackContract t v r' u' w' → (r ≡ r') × ((u ≡ u') × (w ≡ w'))
+one_outcome a b = (a.answer ∙ sym b.answer, (a.words ∙ sym b.words, a.versions ∙ sym b.versions))

@@ -10,7 +10,9 @@ ghost use Rattle.changes_roll_back.specs.RollBack.{as_before, rolled_back, slots
 
 use refusals::Refusal;
 use table::{RUN, SLOT_WORDS, Slot};
+use table_forms::Operation;
 use versions::VersionRecord;
+use versions_runs::Turned;
 
 // A row that the run updated or deleted, as it was before it.
 fn as_before(x: Slot, versions: VersionRecord) -> Slot
@@ -19,7 +21,7 @@ fn as_before(x: Slot, versions: VersionRecord) -> Slot
     let current = versions.current;
     Slot {
         run: current,
-        operation: table_forms::INSERT,
+        operation: Operation::Insert as i64,
         key1: x.key1,
         key2: x.key2,
         current1: x.old1,
@@ -30,6 +32,7 @@ fn as_before(x: Slot, versions: VersionRecord) -> Slot
 }
 
 // What is left of a slot.
+#[tactic(auto, using(laws::specs::Bits::plain, laws::specs::Bits::is, laws::specs::Bits::isnt), unfolding(crate::specs::RollBack::rolled_back))]
 fn rolled_back(x: Slot, versions: VersionRecord) -> Slot
     requires { bad_record versions ≡ false }
     ensures { result ≡ rolled_back versions x }
@@ -37,13 +40,14 @@ fn rolled_back(x: Slot, versions: VersionRecord) -> Slot
     if x.run != versions::run_number(versions) {
         return x;
     }
-    if x.operation == table_forms::INSERT {
+    if x.operation == Operation::Insert as i64 {
         return table::empty_slot();
     }
     as_before(x, versions)
 }
 
 // The slot at a place put back. One of another run is not written.
+#[tactic(auto, using(laws::specs::Bits::isnt, crate::specs::RollBackLaws::back_other, table::specs::SlotLaws::put_standing, table::specs::SlotLaws::slot_from_lem))]
 fn put_slot_back(table: &mut [i64], k: usize, versions: VersionRecord)
     requires lawful_table { bad_table table.old ≡ false }
     requires in_table { k < slots table.old }
@@ -70,6 +74,7 @@ fn put_back(table: &mut [i64], versions: VersionRecord)
 }
 
 // The tests: 1, 2, 8, and 6 of any slot.
+#[tactic(auto, using(changes::specs::RunningLaws::running, changes::specs::RunningLaws::running_passes, laws::specs::FirstLaws::skip, laws::specs::FirstLaws::hit, laws::specs::FirstLaws::done), unfolding(crate::specs::RollBack::roll_back_refusal))]
 fn test_all(table: &[i64], versions: VersionRecord) -> Result<(), Refusal>
     ensures { result ≡ unless (roll_back_refusal table.now versions) tt }
 {
@@ -80,13 +85,32 @@ fn test_all(table: &[i64], versions: VersionRecord) -> Result<(), Refusal>
     Ok(())
 }
 
-// Roll back: the rows of this run are put back, the run ends, and current stays, which is the answer. The record is altered where it
-// stands.
+// Roll back, by value: the rows of this run are put back, the run ends, and current stays, which is the answer.
+#[tactic(auto, using(laws::specs::Bits::plain, crate::specs::RollBackLaws::can_roll_back), unfolding(crate::specs::RollBack::roll_back_answer, crate::specs::RollBack::roll_back_words, crate::specs::RollBack::roll_back_record))]
+pub fn roll_back_by_value(table: &mut [i64], versions: VersionRecord) -> Turned
+    ensures { RollBackContract table.old versions result.answer table.new result.versions }
+{
+    if let Err(refusal) = test_all(table, versions) {
+        return Turned {
+            answer: Err(refusal),
+            versions,
+        };
+    }
+    put_back(table, versions);
+    Turned {
+        answer: Ok(versions.current),
+        versions: VersionRecord {
+            active: false,
+            ..versions
+        },
+    }
+}
+
+// Roll back, on a lent record, thin over roll back by value.
 pub fn roll_back(table: &mut [i64], versions: &mut VersionRecord) -> Result<i64, Refusal>
     ensures { RollBackContract table.old versions.old result table.new versions.new }
 {
-    test_all(table, *versions)?;
-    put_back(table, *versions);
-    versions.active = false;
-    Ok(versions.current)
+    let turned = roll_back_by_value(table, *versions);
+    *versions = turned.versions;
+    turned.answer
 }

@@ -4,5 +4,4 @@ pub mod PutParts
 pub mod PutPartLaws
 pub mod DeleteRow
 pub mod LeavesLaws
-pub mod Looked
 pub mod PlacedNumbers

@@ -9,6 +9,7 @@ use Rattle.table.specs.declared.Slot.{Slot}
 use Rattle.table.specs.Slots.{slots, slot_at}
 use Rattle.table_free.specs.Free.{free_slot}
 use Rattle.table_forms.specs.Formed.{broken}
+use Rattle.changes_cells.specs.declared.Given.{Given}
 use Rattle.changes_cells.specs.Tables.{put_over}
 use Rattle.changes_rows.specs.ChangeLeaves.{Leaves}
 
@@ -21,5 +22,5 @@ abbrev pub new_tests : List ℤ → VersionRecord → List (Bool × Refusal)
 new_tests t v = (not (ltb (free_slot t v) (slots t)), refusal.TableFull) ∷ []
 
 -- what is left past those tests: the place k is written with what a put leaves of the slot x
-pub record PutAt (t : List ℤ) (v : VersionRecord) (tests : List (Bool × Refusal)) (k : ℕ) (x : Slot) (key1 key2 total1 total2 : ℤ) (r : Result ℕ Refusal) (t' : List ℤ) : Type 0 where
-  pub leaves : Leaves (first tests) t k (put_over (run_number v) x key1 key2 total1 total2) r t'
+pub record PutAt (t : List ℤ) (v : VersionRecord) (tests : List (Bool × Refusal)) (k : ℕ) (x : Slot) (g : Given) (r : Result ℕ Refusal) (t' : List ℤ) : Type 0 where
+  pub leaves : Leaves (first tests) t k (put_over (run_number v) x g.key1 g.key2 g.total1 g.total2) r t'
