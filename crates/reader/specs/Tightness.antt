@@ -22,6 +22,7 @@ use Rattle.changes.specs.Delete as delete
 use Rattle.changes_roll_back.specs.RollBack.{RollBackContract}
 use Rattle.changes_roll_back.specs.RollBackLaws as roll_back
 use Rattle.blocks.specs.declared.Header.{Header}
+use Rattle.blocks.specs.declared.saved.Saved.{Saved}
 use Rattle.blocks.specs.SaveHeader.{SaveHeaderContract}
 use Rattle.blocks.specs.SaveHeader as save_header
 use Rattle.blocks.specs.SaveBlock.{SaveBlockContract}
@@ -55,10 +56,11 @@ pub record Tight : Type 0 where
       → RollBackContract t v r u w → RollBackContract t v r' u' w' → (r ≡ r') × (u ≡ u') × (w ≡ w')
   pub of_roll_back_by_value : {t u u' : List ℤ} {v : VersionRecord} {r r' : Turned}
       → RollBackContract t v r.answer u r.versions → RollBackContract t v r'.answer u' r'.versions → (r ≡ r') × (u ≡ u')
-  -- a save answers the bytes of the block
-  pub of_save_header : {t : List ℤ} {v : VersionRecord} {r r' : Result (List ℕ) Refusal} → SaveHeaderContract t v r → SaveHeaderContract t v r' → r ≡ r'
-  pub of_save_block : {t : List ℤ} {v : VersionRecord} {k : ℕ} {r r' : Result (List ℕ) Refusal}
-      → SaveBlockContract t v k r → SaveBlockContract t v k r' → r ≡ r'
+  -- a save hands out its answer and a block
+  pub of_save_header : {t : List ℤ} {v : VersionRecord} {r r' : Saved}
+      → SaveHeaderContract t v r → SaveHeaderContract t v r' → (r.answer ≡ r'.answer) × (r.block ≡ r'.block)
+  pub of_save_block : {t : List ℤ} {v : VersionRecord} {k : ℕ} {r r' : Saved}
+      → SaveBlockContract t v k r → SaveBlockContract t v k r' → (r.answer ≡ r'.answer) × (r.block ≡ r'.block)
   pub of_load_header : {block : List ℕ} {r r' : Result Header Refusal} → LoadHeaderContract block r → LoadHeaderContract block r' → r ≡ r'
   pub of_load_block : {t u u' : List ℤ} {v : VersionRecord} {k : ℕ} {block : List ℕ} {r r' : Result Unit Refusal}
       → LoadBlockContract t v k block r u → LoadBlockContract t v k block r' u' → (r ≡ r') × (u ≡ u')

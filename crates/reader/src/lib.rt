@@ -10,6 +10,8 @@ pub use refusals::Refusal;
 pub use reads::Row;
 // What a roll-up comes to: how many rows, how many of them reported each total, and both sums.
 pub use reads_roll_up::Sums;
+// What a save hands out: its answer, and the block beside it, zeros where it is refused.
+pub use blocks::Saved;
 // What a header holds: slots, current and the oldest open version.
 pub use blocks::Header;
 
@@ -34,9 +36,9 @@ pub use reads_roll_up::roll_up;
 pub use changes::put;
 // Delete a row, in a run: the number of its slot.
 pub use changes::delete;
-// Save block 0: slots, current and the oldest open version, as the bytes of a block.
+// Save block 0: slots, current and the oldest open version.
 pub use blocks::save_header;
-// Save block k from 1: seven slots, as the bytes of a block.
+// Save block k from 1: seven slots.
 pub use blocks::save_block;
 // Load block 0.
 pub use blocks::load_header;
