@@ -36,7 +36,11 @@ fn say_store(
 }
 
 // Version 2: three stores.
-fn open_stores(rt: &impl Print, table: &mut [i64], versions: &mut VersionRecord) -> anyhow::Result<()> {
+fn open_stores(
+    rt: &impl Print,
+    table: &mut [i64],
+    versions: &mut VersionRecord,
+) -> anyhow::Result<()> {
     reader::begin(versions)?;
     reader::put(table, *versions, REGION, 1, 400, 0)?;
     reader::put(table, *versions, REGION, 2, 250, 0)?;

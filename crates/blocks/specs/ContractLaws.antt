@@ -1,31 +1,25 @@
 -- How each contract is shown: by a refusal that is given, or by what is done where nothing is refused. Assumes nothing.
-use Rattle.std.specs.Prelude.{◌≡◌, List, ℕ, ℤ, Some, None, Result, Ok, Err}
+use Rattle.std.specs.Prelude.{◌≡◌, refl, List, ℕ, ℤ, Option, Some, None, Result, Ok, Err}
 use Rattle.refusals.specs.declared.Refusal.{Refusal}
+use Rattle.laws.specs.First.{unless, kept_or}
 use Rattle.laws.specs.FirstLaws.{unless_refused, unless-done, kept_refused, kept-done}
 use Rattle.versions.specs.declared.VersionRecord.{VersionRecord}
+use Rattle.blocks_words.specs.Words.{zero_block}
 use Rattle.blocks_words.specs.Longs.{block_slots}
 use Rattle.blocks_loads.specs.LoadedSlots.{loaded_to}
 use Rattle.blocks.specs.declared.Header.{Header}
-use Rattle.blocks.specs.SaveHeader.{save_header_refusal, saved_header, save_header_answer, SaveHeaderContract}
-use Rattle.blocks.specs.SaveBlock.{save_block_refusal, saved_block, save_block_answer, SaveBlockContract}
+use Rattle.blocks.specs.SavedParts.{answered, handed_out}
 use Rattle.blocks.specs.LoadHeader.{load_header_refusal, header_of, load_header_answer, LoadHeaderContract}
 use Rattle.blocks.specs.LoadBlock.{load_block_refusal, load_block_answer, load_block_words, LoadBlockContract}
 
--- ---- save header
-module _ {t : List ℤ} {v : VersionRecord} where
-  pub header_not_saved : {e : Refusal} → save_header_refusal t v ≡ Some e → SaveHeaderContract t v (Err e)
-  unfolding save_header_answer
-  header_not_saved h = record { answer = unless_refused (saved_header t v) h }
+-- ---- a save: its answer and its block, of the block that is made or the refusal
+pub answered_by : (m : Option Refusal) (block : List ℕ) → answered (unless m block) ≡ unless m tt
+answered_by (Some e) block = refl
+answered_by None block = refl
 
-  pub header_saved : {r : Result (List ℕ) Refusal} → save_header_refusal t v ≡ None → r ≡ Ok (saved_header t v) → SaveHeaderContract t v r
-  unfolding save_header_answer
-  header_saved h e = record { answer = unless-done h e }
-
--- ---- save block
-module _ {t : List ℤ} {v : VersionRecord} {k : ℕ} where
-  pub block_not_saved : {e : Refusal} → save_block_refusal t v k ≡ Some e → SaveBlockContract t v k (Err e)
-  unfolding save_block_answer
-  block_not_saved h = record { answer = unless_refused (saved_block t k) h }
+pub handed_out_by : (m : Option Refusal) (block : List ℕ) → handed_out (unless m block) ≡ kept_or m zero_block block
+handed_out_by (Some e) block = refl
+handed_out_by None block = refl
 
 -- ---- load header
 module _ {block : List ℕ} where

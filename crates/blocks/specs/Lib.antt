@@ -3,6 +3,7 @@ pub mod SaveBlock
 pub mod LoadHeader
 pub mod LoadBlock
 pub mod BlockTests
+pub mod SavedParts
 pub mod FrontLaws
 pub mod ContractLaws
 pub mod HeaderLaws

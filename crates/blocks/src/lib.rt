@@ -1,12 +1,12 @@
-// Blocks of 512 bytes: the four calls, and what a load answers. A save makes its block in one pass over the slots; a load tests
+// Blocks of 512 bytes: the four calls, and what each answers. A save makes its block in one pass over the slots; a load tests
 // everything before it writes.
 #![tactic(auto)]
 
 ghost use Rattle.std.specs.Prelude.{◌≡◌, None, Some, MatchResult};
 ghost use Rattle.laws.specs.First.{first, unless};
 ghost use Rattle.blocks.specs.BlockTests.{idle_tests, block_tests, byte_tests};
-ghost use Rattle.blocks.specs.SaveHeader.{SaveHeaderContract};
-ghost use Rattle.blocks.specs.SaveBlock.{SaveBlockContract};
+ghost use Rattle.blocks.specs.SaveHeader.{save_header_refusal, saved_header, SaveHeaderContract};
+ghost use Rattle.blocks.specs.SaveBlock.{save_block_refusal, saved_block, SaveBlockContract};
 ghost use Rattle.blocks.specs.LoadHeader.{LoadHeaderContract};
 ghost use Rattle.blocks.specs.LoadBlock.{LoadBlockContract};
 
@@ -15,6 +15,10 @@ pub use blocks_words::BLOCK_BYTES;
 use blocks_words::word_at;
 use refusals::Refusal;
 use versions::VersionRecord;
+
+mod saved;
+
+pub use saved::Saved;
 
 // What load header answers: slots, current and the oldest open version.
 #[derive(Clone, Copy, Debug, PartialEq, Eq)]
@@ -64,9 +68,9 @@ fn test_bytes(bytes: &[u8]) -> Result<&[u8; BLOCK_BYTES], Refusal>
     Ok(block)
 }
 
-// Save header: 1, 2, 7.
-pub fn save_header(table: &[i64], versions: VersionRecord) -> Result<[u8; BLOCK_BYTES], Refusal>
-    ensures { SaveHeaderContract table.now versions result }
+// The header's block: 1, 2, 7.
+fn made_header(table: &[i64], versions: VersionRecord) -> Result<[u8; BLOCK_BYTES], Refusal>
+    ensures { result ≡ unless (save_header_refusal table.now versions) (saved_header table.now versions) }
 {
     test_idle(table, versions)?;
     let slots = table::slots_of(table) as u32;
@@ -75,16 +79,30 @@ pub fn save_header(table: &[i64], versions: VersionRecord) -> Result<[u8; BLOCK_
     Ok(blocks_headers::header_block(slots, current, oldest))
 }
 
-// Save block: 1, 2, 7, 5, 6 (its slots).
-pub fn save_block(
+// A block of slots: 1, 2, 7, 5, 6 (its slots).
+fn made_block(
     table: &[i64],
     versions: VersionRecord,
     number: usize,
 ) -> Result<[u8; BLOCK_BYTES], Refusal>
-    ensures { SaveBlockContract table.now versions number result }
+    ensures { result ≡ unless (save_block_refusal table.now versions number) (saved_block table.now number) }
 {
     test_block(table, versions, number)?;
     blocks_saves::save_slots(table, versions, number)
+}
+
+// Save header.
+pub fn save_header(table: &[i64], versions: VersionRecord) -> Saved
+    ensures { SaveHeaderContract table.now versions result }
+{
+    Saved::from(made_header(table, versions))
+}
+
+// Save block.
+pub fn save_block(table: &[i64], versions: VersionRecord, number: usize) -> Saved
+    ensures { SaveBlockContract table.now versions number result }
+{
+    Saved::from(made_block(table, versions, number))
 }
 
 // Load header: 14, 15, 16. It answers slots, current and the oldest open version.

@@ -1,8 +1,7 @@
 // The figures of RULES.md on blocks: each save's refusal and the check of its block, a line each.
 #![tactic(auto)]
 
-use blocks::BLOCK_BYTES;
-use refusals::Refusal;
+use blocks::{BLOCK_BYTES, Saved};
 use std::io;
 use versions::VersionRecord;
 
@@ -11,18 +10,11 @@ fn check_of(block: &[u8; BLOCK_BYTES]) -> u32 {
     u32::from_le_bytes([block[508], block[509], block[510], block[511]])
 }
 
-// A line: 0 and the check, or the refusal and 0, since there is no block.
-fn print(rt: &impl Print, saved: Result<[u8; BLOCK_BYTES], Refusal>) -> io::Result<()> {
-    match saved {
-        Ok(block) => {
-            let check = check_of(&block);
-            println!(rt; "0 {check}")
-        }
-        Err(refusal) => {
-            let number = refusal.number();
-            println!(rt; "{number} 0")
-        }
-    }
+// A line: the refusal's number or 0, and the check.
+fn print(rt: &impl Print, saved: Saved) -> io::Result<()> {
+    let check = check_of(&saved.block);
+    let refusal = saved.answer.err().map_or(0, |refusal| refusal.number());
+    println!(rt; "{refusal} {check}")
 }
 
 fn main(rt: HostRuntime) -> io::Result<()> {

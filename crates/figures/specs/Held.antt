@@ -1,7 +1,7 @@
 -- Fields of demand 3's statement at computed histories of tables of one slot and of three: what the wrong builds of RULES.md would
 -- break, and a wrong tally. They follow from `demand3` too; here they are computed from the definitions alone, so that a wrong build
 -- in these makes one of them false (`.ci/wrong-builds`). Assumes nothing.
-use Rattle.std.specs.Prelude.{◌≡◌, refl, List, [], ◌∷◌, ℕ, ℤ, pos}
+use Rattle.std.specs.Prelude.{◌≡◌, refl, List, [], ◌∷◌, ℕ, ℤ, pos, Option, Some, None, Ok}
 use Rattle.std.proofs.Common.{sym, ap, ◌∙◌, arith}
 use Rattle.laws.specs.Tests.{all, any}
 use Rattle.laws.specs.First.{first}
@@ -23,12 +23,10 @@ use Rattle.changes_cells.specs.Tables.{changed}
 use Rattle.changes.specs.Put.{put_refusal, put_answer, put_words}
 use Rattle.changes.specs.Delete.{delete_refusal, delete_answer, delete_words}
 use Rattle.changes_roll_back.specs.RollBack.{rolled_back, roll_back_refusal, roll_back_answer, roll_back_words, roll_back_record}
-use Rattle.calls.specs.Seen.{Seen}
-use Rattle.calls.specs.Seen as seen
-use Rattle.calls.specs.Rolled as rolled
+use Rattle.calls.specs.Rows.{Row, Sums}
 use Rattle.calls.specs.Calls.{Call, begin, commit, put, delete, roll_back, read_key, roll_up}
 use Rattle.calls.specs.Calls as answer
-use Rattle.history.specs.Databases.{found, rolled_up}
+use Rattle.history.specs.Databases.{row, found, rolled_up}
 use Rattle.history.specs.Followed.{database_at}
 use Rattle.history.specs.Kinds.{World, fresh_world, after, answer_of}
 use Rattle.figures.specs.Cases.{unreported}
@@ -70,9 +68,9 @@ put_corrected =
     after {K = two_versions} (begin ∷ put (pos 1) (pos 14) (pos 100) (pos 5) ∷ put (pos 1) (pos 14) (pos 110) (pos 5) ∷ []) (fresh_world two_versions 1)
 
 -- a field is shown by what both sides of it come to
-read_as : (w : World two_versions) (s : ℕ) (key1 key2 : ℤ) (r : Seen) → (IsGone w s → ⊥) → answer_of (read_key (pos s) key1 key2) w ≡ answer.seen r
+read_as : (w : World two_versions) (s : ℕ) (key1 key2 : ℤ) (r : Option Row) → (IsGone w s → ⊥) → answer_of (read_key (pos s) key1 key2) w ≡ answer.seen (Ok r)
     → found key1 key2 (database_at w.told s) ≡ r → KeyRead w s key1 key2
-read_as w s key1 key2 r open-still got shown = record { gone = λ h. absurd (open-still h); kept = λ still. got ∙ ap answer.seen (sym shown) }
+read_as w s key1 key2 r open-still got shown = record { gone = λ h. absurd (open-still h); kept = λ still. got ∙ ap (λ x. answer.seen (Ok x)) (sym shown) }
 
 pub record Held : Type 0 where
   -- 1. a session at 2 reads the row as it was before run 3, however often that corrects it
@@ -95,24 +93,27 @@ pub record Held : Type 0 where
 -- the roll-up stands apart, so that a build that breaks a read of a key is refused there too
 summed : RegionRead partly_reported 2 (pos 1)
 unfolding all any first lowest some bad_record unborn expired begin_refusal begin_answer begin_record commit_refusal commit_answer commit_record bad_table slot_at put_slot column live lawful reported unlawful all_zeros totals_lawful used_well well_formed any_broken has_key key_slot long_deleted free free_slot shown read_slot_refusal read_slot_answer roll_up_refusal roll_up_answer changed put_refusal put_answer put_words delete_refusal delete_answer delete_words rolled_back roll_back_refusal roll_back_answer roll_back_words roll_back_record read_key_refusal read_key_answer
-summed = record { gone = λ h. absurd (omega arith); kept = λ still. got ∙ ap answer.rolled (sym sums) }
+summed = record { gone = λ h. absurd (omega arith); kept = λ still. got ∙ ap (λ x. answer.rolled (Ok x)) (sym sums) }
   where
-    got : answer_of {K = two_versions} (roll_up (pos 2) (pos 1)) partly_reported ≡ answer.rolled (rolled.Sums 3 2 1 (pos 100) (pos 5))
+    reported : Sums
+    reported = record { rows = 3; reported1 = 2; reported2 = 1; sum1 = pos 100; sum2 = pos 5 }
+
+    got : answer_of {K = two_versions} (roll_up (pos 2) (pos 1)) partly_reported ≡ answer.rolled (Ok reported)
     got = refl
 
-    sums : rolled_up (pos 1) (database_at partly_reported.told 2) ≡ rolled.Sums 3 2 1 (pos 100) (pos 5)
+    sums : rolled_up (pos 1) (database_at partly_reported.told 2) ≡ reported
     sums = refl
 
 pub held : Held
 unfolding all any first lowest some bad_record unborn expired begin_refusal begin_answer begin_record commit_refusal commit_answer commit_record bad_table slot_at put_slot column live lawful reported unlawful all_zeros totals_lawful used_well well_formed any_broken has_key key_slot long_deleted free free_slot shown read_slot_refusal read_slot_answer roll_up_refusal roll_up_answer changed put_refusal put_answer put_words delete_refusal delete_answer delete_words rolled_back roll_back_refusal roll_back_answer roll_back_words roll_back_record read_key_refusal read_key_answer
 held = record {
-  corrected_twice_lem = read_as corrected_twice 2 (pos 1) (pos 14) (seen.Row (pos 1) (pos 14) (pos 100) (pos 5)) (λ h. omega arith) refl refl;
-  put_corrected_lem = read_as put_corrected 1 (pos 1) (pos 14) seen.NoRow (λ h. omega arith) refl refl;
-  deleted_put_lem = read_as deleted_put 2 (pos 1) (pos 14) (seen.Row (pos 1) (pos 14) (pos 100) (pos 5)) (λ h. omega arith) refl refl;
+  corrected_twice_lem = read_as corrected_twice 2 (pos 1) (pos 14) (Some (row (pos 1) (pos 14) (pos 100) (pos 5))) (λ h. omega arith) refl refl;
+  put_corrected_lem = read_as put_corrected 1 (pos 1) (pos 14) None (λ h. omega arith) refl refl;
+  deleted_put_lem = read_as deleted_put 2 (pos 1) (pos 14) (Some (row (pos 1) (pos 14) (pos 100) (pos 5))) (λ h. omega arith) refl refl;
   no_room = record { full = λ f. refl; room = λ room. absurd (room (refl, refl)) };
-  deleted_another_lem = read_as deleted_another 2 (pos 1) (pos 14) (seen.Row (pos 1) (pos 14) (pos 100) (pos 5)) (λ h. omega arith) refl refl;
+  deleted_another_lem = read_as deleted_another 2 (pos 1) (pos 14) (Some (row (pos 1) (pos 14) (pos 100) (pos 5))) (λ h. omega arith) refl refl;
   gone = record { gone = λ h. refl; kept = λ still. absurd (still (omega arith)) };
   gone_still = record { gone = λ h. refl; kept = λ still. absurd (still (omega arith)) };
-  corrected-back = read_as corrected_back 2 (pos 1) (pos 14) (seen.Row (pos 1) (pos 14) (pos 100) (pos 5)) (λ h. omega arith) refl refl;
+  corrected-back = read_as corrected_back 2 (pos 1) (pos 14) (Some (row (pos 1) (pos 14) (pos 100) (pos 5))) (λ h. omega arith) refl refl;
   region = summed;
 }

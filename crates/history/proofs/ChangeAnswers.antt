@@ -1,15 +1,8 @@
 -- What changes of the table of two versions answer where all is well: the shape, the record and the key's slot are sound, so that
 -- what is left to test are the run, the totals, the key and the room. A key is live exactly when its slot shows a row at the run's
 -- number; a slot is free exactly when neither current nor the run's number shows a row of it. Assumes nothing.
-use mathlib.Core.Path.{◌≡◌, sym, ap, ◌∙◌}
-use mathlib.Core.Bool.{Bool, true, false, not}
-use mathlib.Core.Logic.{⊎_elim, inl, inr}
-use mathlib.Core.List.{List}
-use Prim.Native.Nat.{ℕ}
-use native.Mathlib.Omega.{arith}
-use lib.Dec.{ltb}
-use lib.IntN.{ℤ}
-use borrow.Author.Tests.{ltb-true, ltb-false}
+use Rattle.std.specs.Prelude.{◌≡◌, Bool, true, false, not, List, ℕ, ltb, ℤ, is_some}
+use Rattle.std.proofs.Common.{sym, ap, ◌∙◌, ⊎_elim, inl, inr, arith, ltb-true, ltb-false}
 use Rattle.laws.specs.TestLaws.{by_test, clash}
 use Rattle.laws.specs.FirstLaws.{skip, hit, done}
 use Rattle.versions.specs.declared.VersionRecord.{VersionRecord}
@@ -31,10 +24,10 @@ use Rattle.changes.specs.ChangesRefused as refused
 use Rattle.changes.specs.ChangesRefused.{busy_seen, put_refused, delete_refused, put_idle, delete_idle}
 use Rattle.changes.specs.ChangeOutcomes.{put_refuses, put_accepts, delete_refuses, delete_accepts}
 use Rattle.changes_rows.specs.PutRow.{no_slot}
+use Rattle.calls.specs.Refusals as refusal
 use Rattle.calls.specs.Calls as answer
 use Rattle.history.specs.Followed.{current}
 use Rattle.history.specs.Kinds.{accepted}
-use Rattle.history.proofs.DatabaseLaws.{shows}
 use Rattle.history.proofs.Growth.{current_committed}
 use Rattle.history.proofs.Invariant.{current_open}
 use Rattle.history.proofs.Fullness.{NoRoom}
@@ -53,8 +46,8 @@ idle m w i no_run key1 key2 =
     let known = i.sound.recorded.known in
     let e = i.sound.recorded.active ∙ no_run in
     record {
-      put = λ a b. ap answer.placed (put_refuses _ _ key1 key2 a b 7 (put_idle _ _ shape known e key1 key2 a b)).answer;
-      delete = ap answer.placed (delete_refuses _ _ key1 key2 7 (delete_idle _ _ shape known e key1 key2)).answer;
+      put = λ a b. ap answer.placed (put_refuses _ _ key1 key2 a b refusal.NoRun (put_idle _ _ shape known e key1 key2 a b)).answer;
+      delete = ap answer.placed (delete_refuses _ _ key1 key2 refusal.NoRun (delete_idle _ _ shape known e key1 key2)).answer;
     }
 
 -- ---- during a run
@@ -72,7 +65,7 @@ module _ (m : ℕ) (w : TableWorld) (i : Well m w) (a : w.told.active ≡ true) 
   runs = recorded.active ∙ a
 
   -- a slot shows a row at the run's number exactly when it is live
-  slot-live : (x : Slot) → well_formed x v ≡ true → shows (shown (run_number v) x) ≡ live x
+  slot-live : (x : Slot) → well_formed x v ≡ true → is_some (shown (run_number v) x) ≡ live x
   slot-live x f =
       formed_cases x v f (λ e. rw (e, shown-empty (run_number v), dead_empty))
       (λ u. let r = run_within v recorded.known runs u in
@@ -87,8 +80,8 @@ module _ (m : ℕ) (w : TableWorld) (i : Well m w) (a : w.told.active ≡ true) 
     unseen = λ j l y s c still.
         let e : s ≡ current w.told = omega (arith, i.inv.in_run a) in
         rw (e, ← recorded.version) (free_unseen v recorded.known runs (slot_at t j) y).0;
-    visible = λ j l n. ⊎_elim (λ e. inl (rw (run_is recorded) (ap shows e)))
-        (λ e. inr (current w.told, current_committed w.told, current_open i.inv, rw (← recorded.version) (ap shows e)))
+    visible = λ j l n. ⊎_elim (λ e. inl (rw (run_is recorded) (ap is_some e)))
+        (λ e. inr (current w.told, current_committed w.told, current_open i.inv, rw (← recorded.version) (ap is_some e)))
         (busy_seen t v i.sound.whole recorded.known runs (slot_at t j) (i.sound.whole.formed j) n);
   }
 
@@ -116,14 +109,14 @@ module _ (m : ℕ) (w : TableWorld) (i : Well m w) (a : w.told.active ≡ true) 
       let known = recorded.known in
       let live = live_is key1 key2 in
       record {
-        put_unlawful = λ x y bad. ap answer.placed (put_refuses _ _ key1 key2 x y 12 (put_refused _ _ whole known runs key1 key2 x y ∙ hit _ bad)).answer;
+        put_unlawful = λ x y bad. ap answer.placed (put_refuses _ _ key1 key2 x y refusal.BadTotal (put_refused _ _ whole known runs key1 key2 x y ∙ hit _ bad)).answer;
         put_full = λ x y lawful r. ap answer.placed
-            (put_refuses _ _ key1 key2 x y 11 (put_refused _ _ whole known runs key1 key2 x y ∙ skip 13 _ lawful ∙ hit _ (no_slot_lem key1 key2 r))).answer;
+            (put_refuses _ _ key1 key2 x y refusal.TableFull (put_refused _ _ whole known runs key1 key2 x y ∙ skip refusal.BadTotal _ lawful ∙ hit _ (no_slot_lem key1 key2 r))).answer;
         put_room = λ x y lawful room. ap (λ p. accepted (answer.placed p))
             (put_accepts _ _ key1 key2 x y
-            (put_refused _ _ whole known runs key1 key2 x y ∙ skip 13 _ lawful
-            ∙ skip 12 _ (by_test (no_slot t v key1 key2) (λ z. absurd (room (no_room key1 key2 z))) (λ n. n)) ∙ done)).answer;
+            (put_refused _ _ whole known runs key1 key2 x y ∙ skip refusal.BadTotal _ lawful
+            ∙ skip refusal.TableFull _ (by_test (no_slot t v key1 key2) (λ z. absurd (room (no_room key1 key2 z))) (λ n. n)) ∙ done)).answer;
         delete_live = λ h. ap (λ p. accepted (answer.placed p))
-            (delete_accepts _ _ key1 key2 (delete_refused _ _ whole known runs key1 key2 ∙ skip 11 _ (ap not (live ∙ h)) ∙ done)).answer;
-        delete_absent = λ h. ap answer.placed (delete_refuses _ _ key1 key2 10 (delete_refused _ _ whole known runs key1 key2 ∙ hit _ (ap not (live ∙ h)))).answer;
+            (delete_accepts _ _ key1 key2 (delete_refused _ _ whole known runs key1 key2 ∙ skip refusal.KeyNotLive _ (ap not (live ∙ h)) ∙ done)).answer;
+        delete_absent = λ h. ap answer.placed (delete_refuses _ _ key1 key2 refusal.KeyNotLive (delete_refused _ _ whole known runs key1 key2 ∙ hit _ (ap not (live ∙ h)))).answer;
       }

@@ -1,28 +1,26 @@
 -- Databases in another order: a permutation of rows holds the same keys, and where no key stands twice it finds the same rows,
 -- rolls up to the same counts and sums, and loses the same row. Each goes by the permutation; a step on one or two rows goes by
 -- the tests on them alone. And the roll-up of a database is what the library's tally of its rows comes to. Assumes nothing.
-use mathlib.Core.Path.{◌≡◌, refl, sym, ap, ap₂, subst, ◌∙◌}
-use mathlib.Core.Bool.{Bool, true, false, cond, not, ◌&&◌, ◌||◌, or_assoc, or_comm}
-use mathlib.Core.Logic.{∥∥₁_elim}
+use Rattle.std.specs.Prelude.{◌≡◌, refl, Bool, true, false, cond, not, ◌&&◌, ◌||◌, [], ◌∷◌, ◌++◌, map, suc, ℤ, ◌+ℤ◌, length, Option, Some, None, is_some, filter}
+use Rattle.std.proofs.Common.{sym, ap, ap₂, subst, ◌∙◌}
+use Rattle.std.proofs.Math.Bool.{or_assoc, or_comm}
+use Rattle.std.proofs.Math.IntN.{+ℤ_comm, +ℤ_assoc, ℤ_set}
+use Rattle.std.proofs.Math.Logic.{∥∥₁_elim}
+use Rattle.std.proofs.Math.Nat.{ℕ_set}
+use Rattle.std.proofs.lemmas.List.Folds.{list_any-append}
+use mathlib.Core.List.{Perm, Permᴰ}
 use mathlib.Core.List.Permᴰ
-use mathlib.Core.List.{[], ◌∷◌, ◌++◌, map, Perm, Permᴰ}
-use Prim.Native.Nat.{suc}
-use native.Mathlib.Nat.{ℕ_set}
-use lib.IntN.{ℤ, ◌+ℤ◌, +ℤ_comm, +ℤ_assoc, ℤ_set}
-use lib.ListN.{length}
 use Rattle.laws.specs.TestLaws.{by_test, clash}
 use Rattle.laws.specs.Permutations.{by_perm, permᴰ-length}
 use Rattle.laws.specs.OrderLaws.{eq_z_true, eq_z_same}
 use Rattle.laws.specs.Order.{eq_z}
 use Rattle.table_forms.specs.TotalLaws.{reported_is}
 use Rattle.table_forms.specs.Totals.{not_reported}
-use Rattle.reads.specs.declared.Seen.{Seen}
-use Rattle.reads.specs.declared.Seen.TheVariants as seen
-use Rattle.reads_roll_up.specs.declared.Rolled.TheVariants.{Sums}
 use Rattle.reads_roll_up.specs.declared.Reported.{Reported}
 use Rattle.reads_roll_up.specs.declared.Tally.{Tally}
 use Rattle.reads_roll_up.specs.RollUp.{with_total, counted, tally, sums}
-use Rattle.history.specs.Databases.{Row, Database, is_key, holds, NoRepeat, without, found, as_seen, those, region, reporting, sum_of, rolled_up, beside}
+use Rattle.calls.specs.Rows.{Row}
+use Rattle.history.specs.Databases.{Database, is_key, holds, NoRepeat, without, found, region, reporting, sum_of, rolled_up, beside}
 
 -- ---- tests
 pub neither : (a b : Bool) → a || b ≡ false → (a ≡ false) × (b ≡ false)
@@ -59,8 +57,7 @@ holds-perm p q =
     (λ a b d. or_swap (is_key p q a) (is_key p q b) (holds p q d)) (λ d e f. ◌∙◌)
 
 pub holds-append : (p q : ℤ) (d e : Database) → holds p q (d ++ e) ≡ holds p q d || holds p q e
-holds-append p q [] e = refl
-holds-append p q (r ∷ d) e = rw (holds-append p q d e, or_assoc)
+holds-append p q = list_any-append (is_key p q)
 
 -- ---- the row of a key is gone
 pub without_absent : (p q : ℤ) (d : Database) → holds p q d ≡ false → without p q d ≡ d
@@ -71,23 +68,23 @@ without_absent p q (r ∷ d) h =
 
 -- ---- the rows that pass a test, in another order
 module _ (test : Row → Bool) where
-  those-head : (r : Row) (d e : Database) → Permᴰ (those test d) (those test e) → Permᴰ (those test (r ∷ d)) (those test (r ∷ e))
-  those-head r d e x = by_test (test r) (λ y. rw y (Permᴰ.cons refl x)) (λ n. rw n x)
+  filter-head : (r : Row) (d e : Database) → Permᴰ (filter test d) (filter test e) → Permᴰ (filter test (r ∷ d)) (filter test (r ∷ e))
+  filter-head r d e x = by_test (test r) (λ y. rw y (Permᴰ.cons refl x)) (λ n. rw n x)
 
-  those_swap : (a b : Row) (d : Database) → Permᴰ (those test (a ∷ b ∷ d)) (those test (b ∷ a ∷ d))
-  those_swap a b d =
+  filter_swap : (a b : Row) (d : Database) → Permᴰ (filter test (a ∷ b ∷ d)) (filter test (b ∷ a ∷ d))
+  filter_swap a b d =
       by_test (test a)
       (λ y. rw y (by_test (test b) (λ z. rw z (Permᴰ.swap refl refl)) (λ m. rw m (Permᴰ.refl _))))
       (λ n. rw n (Permᴰ.refl _))
 
-  pub those-perm : {d e : Database} → Permᴰ d e → Permᴰ (those test d) (those test e)
-  those-perm = by_perm (λ d e. Permᴰ (those test d) (those test e)) Permᴰ.nil those-head those_swap (λ d e f. Permᴰ.trans)
+  pub filter-perm : {d e : Database} → Permᴰ d e → Permᴰ (filter test d) (filter test e)
+  filter-perm = by_perm (λ d e. Permᴰ (filter test d) (filter test e)) Permᴰ.nil filter-head filter_swap (λ d e f. Permᴰ.trans)
 
 pub without-perm : (p q : ℤ) {d e : Database} → Permᴰ d e → Permᴰ (without p q d) (without p q e)
-without-perm p q = those-perm (λ r. not (is_key p q r))
+without-perm p q = filter-perm (λ r. not (is_key p q r))
 
 pub beside-perm : (a : Database) {d e : Database} → Permᴰ d e → Permᴰ (beside a d) (beside a e)
-beside-perm a = those-perm (λ r. not (holds r.key1 r.key2 a))
+beside-perm a = filter-perm (λ r. not (holds r.key1 r.key2 a))
 
 -- ---- no key twice
 -- the key of a row that is no other's is not the other's either
@@ -106,32 +103,27 @@ norepeat-perm (Permᴰ.swap {a = a} {b = b} {a' = a'} {b' = b'} {l = l} e f) n =
 norepeat-perm (Permᴰ.trans x y) n = norepeat-perm y (norepeat-perm x n)
 
 -- ---- the same row is found
-pub found_absent : (p q : ℤ) (d : Database) → holds p q d ≡ false → found p q d ≡ seen.NoRow
+pub found_absent : (p q : ℤ) (d : Database) → holds p q d ≡ false → found p q d ≡ None
 found_absent p q [] h = refl
 found_absent p q (r ∷ d) h =
     let n = neither (is_key p q r) (holds p q d) h in
-    ap₂ (λ b x. cond b (as_seen r) x) n.0 (found_absent p q d n.1)
+    ap₂ (λ b x. cond b (Some r) x) n.0 (found_absent p q d n.1)
 
 -- a key is held exactly when a row of it is found
-abbrev pub shows : Seen → Bool
-shows (seen.Row key1 key2 total1 total2) = true
-shows seen.NoRow = false
-shows (seen.Refused n) = false
-
-pub held_found : (p q : ℤ) (d : Database) → holds p q d ≡ shows (found p q d)
+pub held_found : (p q : ℤ) (d : Database) → holds p q d ≡ is_some (found p q d)
 held_found p q [] = refl
 held_found p q (r ∷ d) = by_test (is_key p q r) (λ y. rw y refl) (λ n. rw n (held_found p q d))
 
 -- two rows in the other order, where not both have the key
-found_swap : (t u : Bool) (a b : Row) (x : Seen) → (t ≡ true → u ≡ true → ⊥)
-    → cond t (as_seen a) (cond u (as_seen b) x) ≡ cond u (as_seen b) (cond t (as_seen a) x)
+found_swap : (t u : Bool) (a b : Row) (x : Option Row) → (t ≡ true → u ≡ true → ⊥)
+    → cond t (Some a) (cond u (Some b) x) ≡ cond u (Some b) (cond t (Some a) x)
 found_swap true true a b x n = absurd (n refl refl)
 found_swap true false a b x n = refl
 found_swap false u a b x n = refl
 
 pub found-perm : (p q : ℤ) {d e : Database} → Permᴰ d e → NoRepeat d → found p q d ≡ found p q e
 found-perm p q Permᴰ.nil n = refl
-found-perm p q (Permᴰ.cons same rest) n = ap₂ (λ r x. cond (is_key p q r) (as_seen r) x) same (found-perm p q rest n.1)
+found-perm p q (Permᴰ.cons same rest) n = ap₂ (λ r x. cond (is_key p q r) (Some r) x) same (found-perm p q rest n.1)
 found-perm p q (Permᴰ.swap {a = a} {b = b} {l = l} e f) n =
     rw (← e, ← f) (found_swap (is_key p q a) (is_key p q b) a b (found p q l) (λ x y. clash (same_key p q a b x y) (neither _ _ n.0).0))
 found-perm p q (Permᴰ.trans x y) n = found-perm p q x n ∙ found-perm p q y (norepeat-perm x n)
@@ -146,16 +138,22 @@ sum-perm total =
 
 -- number by number, since a permutation that is only said to be there may show equal numbers
 pub rolled_perm : (key1 : ℤ) {d e : Database} → Perm d e → rolled_up key1 d ≡ rolled_up key1 e
-rolled_perm key1 {d} {e} p i = Sums (rows i) (report (λ r. r.total1) i) (report (λ r. r.total2) i) (sum (λ r. r.total1) i) (sum (λ r. r.total2) i)
+rolled_perm key1 {d} {e} p i = record {
+  rows = rows i;
+  reported1 = report (λ r. r.total1) i;
+  reported2 = report (λ r. r.total2) i;
+  sum1 = sum (λ r. r.total1) i;
+  sum2 = sum (λ r. r.total2) i;
+}
   where
     rows : length (region key1 d) ≡ length (region key1 e)
-    rows = ∥∥₁_elim p (ℕ_set _ _) (λ q. permᴰ-length (those-perm _ q))
+    rows = ∥∥₁_elim p (ℕ_set _ _) (λ q. permᴰ-length (filter-perm _ q))
 
     report : (total : Row → ℤ) → length (reporting total (region key1 d)) ≡ length (reporting total (region key1 e))
-    report total = ∥∥₁_elim p (ℕ_set _ _) (λ q. permᴰ-length (those-perm _ (those-perm _ q)))
+    report total = ∥∥₁_elim p (ℕ_set _ _) (λ q. permᴰ-length (filter-perm _ (filter-perm _ q)))
 
     sum : (total : Row → ℤ) → sum_of total (reporting total (region key1 d)) ≡ sum_of total (reporting total (region key1 e))
-    sum total = ∥∥₁_elim p (ℤ_set _ _) (λ q. sum-perm total (those-perm _ (those-perm _ q)))
+    sum total = ∥∥₁_elim p (ℤ_set _ _) (λ q. sum-perm total (filter-perm _ (filter-perm _ q)))
 
 -- ---- the library's tally of a database: what its rows report of a total, and what they come to
 abbrev report_of : (Row → ℤ) → Database → Reported
@@ -170,12 +168,12 @@ one_more total r d =
     (by_test (not (eq_z (total r) not_reported))
     (λ y. rw y (λ i. record { rows = suc (length (reporting total d)); sum = +ℤ_comm (sum_of total (reporting total d)) (total r) i })) (λ n. rw n))
 
-tally_counts : (key1 : ℤ) (d : Database) → tally key1 (map as_seen d) ≡ come_to (region key1 d)
+tally_counts : (key1 : ℤ) (d : Database) → tally key1 (map Some d) ≡ come_to (region key1 d)
 tally_counts key1 [] = refl
 tally_counts key1 (r ∷ d) = rw (tally_counts key1 d) (by_test (eq_z r.key1 key1) (λ y. rw y (counts (region key1 d))) (λ n. rw n))
   where
     counts : (e : Database) → counted r.total1 r.total2 (come_to e) ≡ come_to (r ∷ e)
     counts e i = record { rows = suc (length e); total1 = one_more (λ x. x.total1) r e i; total2 = one_more (λ x. x.total2) r e i }
 
-pub tally-region : (key1 : ℤ) (d : Database) → sums (tally key1 (map as_seen d)) ≡ rolled_up key1 d
+pub tally-region : (key1 : ℤ) (d : Database) → sums (tally key1 (map Some d)) ≡ rolled_up key1 d
 tally-region key1 d = ap sums (tally_counts key1 d)

@@ -1,13 +1,9 @@
 -- Demand 3, whole: the table of two versions supplies what `Argument` asks, so that every promise holds after every history of a
 -- fresh one of any lawful size, `demand3`; and after every history of any whole table in which no key has two slots, at any version
 -- with no run active, whose database there are the rows that it shows, `from_whole`. Assumes nothing.
-use mathlib.Core.Path.{◌≡◌}
-use mathlib.Core.Bool.{false}
+use Rattle.std.specs.Prelude.{◌≡◌, false, List, ℕ, ◌≤◌, ℤ, pos}
+use Rattle.std.proofs.Common.{arith}
 use mathlib.Core.List.Permᴰ
-use mathlib.Core.List.{List}
-use Prim.Native.Nat.{ℕ, ◌≤◌}
-use native.Mathlib.Omega.{arith}
-use lib.IntN.{ℤ, pos}
 use Rattle.versions.specs.declared.VersionRecord.{VersionRecord}
 use Rattle.versions.specs.Record.{bad_record}
 use Rattle.table.specs.Slots.{slots}

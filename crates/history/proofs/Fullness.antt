@@ -1,24 +1,19 @@
 -- When there is no room: the keys that the databases of the open versions and the running one hold together are those of the slots
 -- that show a row at one of these versions. Where these are the slots that are not free, they number the slots exactly when
 -- none is free. By counting, slot by slot. And for two versions the open one in a run is current. Assumes nothing.
-use mathlib.Core.Path.{◌≡◌, refl, sym, ap, ap₂, ◌∙◌}
-use mathlib.Core.Bool.{Bool, true, false, cond, not, ◌&&◌, ◌||◌, or-true}
-use mathlib.Core.Logic.{◌⊎◌, ⊎_elim}
+use Rattle.std.specs.Prelude.{◌≡◌, refl, Bool, true, false, cond, not, ◌&&◌, ◌||◌, ◌⊎◌, List, [], ◌∷◌, ◌++◌, map, ℕ, zero, suc, ◌+◌, ◌≤◌, ◌<◌, eqb, leb, ℤ, length, Option, Some, None, is_some, option_to_list}
+use Rattle.std.specs.Option.{option_or}
+use Rattle.std.proofs.Common.{sym, ap, ap₂, ◌∙◌, ⊎_elim, arith, length-append, eqb-true, leb-true, le-leb}
+use Rattle.std.proofs.Math.Bool.{or-true}
+use Rattle.std.proofs.lemmas.Bool.{eqb-false, lt-leb}
+use mathlib.Core.List.{Permᴰ}
 use mathlib.Core.List.Permᴰ
-use mathlib.Core.List.{List, [], ◌∷◌, ◌++◌, map, Permᴰ}
-use Prim.Native.Nat.{ℕ, zero, suc, ◌+◌, ◌≤◌, ◌<◌}
-use native.Mathlib.Omega.{arith}
-use lib.Dec.{eqb, leb}
-use lib.IntN.{ℤ}
-use lib.ListN.{length, length-append}
-use borrow.Author.Tests.{eqb-true, eqb-false, leb-true, le-leb, lt-leb}
 use Rattle.laws.specs.TestLaws.{by_test, clash, not_yes}
 use Rattle.laws.specs.Permutations.{permᴰ-length}
-use Rattle.calls.specs.Seen.{Seen}
-use Rattle.calls.specs.Seen as seen
-use Rattle.history.specs.Databases.{Database, holds, beside, together, all_together, rows_of, up_to}
+use Rattle.calls.specs.Rows.{Row}
+use Rattle.history.specs.Databases.{Database, holds, beside, together, all_together, up_to}
 use Rattle.history.specs.Followed.{Followed, current, database_at, running, Committed, Gone, is_open, open_of, open_versions}
-use Rattle.history.proofs.DatabaseLaws.{and_both, holds-perm, beside-perm, shows}
+use Rattle.history.proofs.DatabaseLaws.{and_both, holds-perm, beside-perm}
 use Rattle.history.proofs.Rows.{rows_for, front, rows_lack, rows_hold}
 use Rattle.history.proofs.Views.{View, Distinct, Owned, by_row, lacks, holds_own, held_here}
 use Rattle.history.proofs.Invariant.{Inv}
@@ -32,56 +27,51 @@ together-perm : {a a' b b' : Database} → Permᴰ a a' → Permᴰ b b' → Per
 together-perm {a} {a'} {b} {b'} x y =
     rw (beside_same a a' b (λ p q. holds-perm p q x)) (Permᴰ.trans (Permᴰ.append_right (beside a' b) x) (Permᴰ.append_left a' (beside-perm a' y)))
 
--- ---- slot by slot: what one shows, and else what another does; and what the other shows where the one shows nothing
-abbrev pub either : Seen → Seen → Seen
-either one other = cond (shows one) one other
+-- ---- slot by slot, beside what one shows and else what another does: what the other shows where the one shows nothing
+abbrev alone : Option Row → Option Row → Option Row
+alone one other = cond (is_some one) None other
 
-abbrev alone : Seen → Seen → Seen
-alone one other = cond (shows one) seen.NoRow other
+either_slot : (one other : Option Row) (d e : Database) {f : Database} → Permᴰ (d ++ e) f
+    → Permᴰ ((option_to_list one ++ d) ++ (option_to_list (alone one other) ++ e)) (option_to_list (option_or one other) ++ f)
+either_slot (Some r) other d e x = Permᴰ.cons refl x
+either_slot None other d e x = Permᴰ.trans (front d (option_to_list other) e) (Permᴰ.append_left (option_to_list other) x)
 
-either-slot : (one other : Seen) (d e : Database) {f : Database} → Permᴰ (d ++ e) f
-    → Permᴰ ((rows_of one ++ d) ++ (rows_of (alone one other) ++ e)) (rows_of (either one other) ++ f)
-either-slot (seen.Row p q a b) other d e x = Permᴰ.cons refl x
-either-slot seen.NoRow other d e x = Permᴰ.trans (front d (rows_of other) e) (Permᴰ.append_left (rows_of other) x)
-either-slot (seen.Refused n) other d e x = Permᴰ.trans (front d (rows_of other) e) (Permᴰ.append_left (rows_of other) x)
-
-either_rows : (f g : ℕ → Seen) (m : ℕ)
-    → Permᴰ (rows_for f (up_to m) ++ rows_for (λ k. alone (f k) (g k)) (up_to m)) (rows_for (λ k. either (f k) (g k)) (up_to m))
+either_rows : (f g : ℕ → Option Row) (m : ℕ)
+    → Permᴰ (rows_for f (up_to m) ++ rows_for (λ k. alone (f k) (g k)) (up_to m)) (rows_for (λ k. option_or (f k) (g k)) (up_to m))
 either_rows f g zero = Permᴰ.nil
-either_rows f g (suc m) = either-slot (f m) (g m) _ _ (either_rows f g m)
+either_rows f g (suc m) = either_slot (f m) (g m) _ _ (either_rows f g m)
 
 -- ---- counting: the rows number the slots exactly when every slot shows one
-slot_count : (r : Seen) → length (rows_of r) ≡ cond (shows r) 1 0
-slot_count (seen.Row p q a b) = refl
-slot_count seen.NoRow = refl
-slot_count (seen.Refused n) = refl
+slot_count : (r : Option Row) → length (option_to_list r) ≡ cond (is_some r) 1 0
+slot_count (Some r) = refl
+slot_count None = refl
 
-module _ (f : ℕ → Seen) where
-  count : (m : ℕ) → length (rows_for f (up_to (suc m))) ≡ cond (shows (f m)) 1 0 + length (rows_for f (up_to m))
-  count m = rw (length-append (rows_of (f m)) (rows_for f (up_to m)), slot_count (f m))
+module _ (f : ℕ → Option Row) where
+  count : (m : ℕ) → length (rows_for f (up_to (suc m))) ≡ cond (is_some (f m)) 1 0 + length (rows_for f (up_to m))
+  count m = rw (length-append (option_to_list (f m)) (rows_for f (up_to m)), slot_count (f m))
 
   count_within : (m : ℕ) → length (rows_for f (up_to m)) ≤ m
   count_within zero = omega arith
   count_within (suc m) =
-      by_test (shows (f m)) (λ y. omega (arith, rw y at (count m), count_within m)) (λ n. omega (arith, rw n at (count m), count_within m))
+      by_test (is_some (f m)) (λ y. omega (arith, rw y at (count m), count_within m)) (λ n. omega (arith, rw n at (count m), count_within m))
 
-  count_all : (m : ℕ) → ((j : ℕ) → j < m → shows (f j) ≡ true) → length (rows_for f (up_to m)) ≡ m
+  count_all : (m : ℕ) → ((j : ℕ) → j < m → is_some (f j) ≡ true) → length (rows_for f (up_to m)) ≡ m
   count_all zero all = refl
   count_all (suc m) all = omega (arith, rw (all m (omega arith)) at (count m), count_all m (λ j l. all j (omega arith)))
 
-  all-counted : (m : ℕ) → length (rows_for f (up_to m)) ≡ m → (j : ℕ) → j < m → shows (f j) ≡ true
+  all-counted : (m : ℕ) → length (rows_for f (up_to m)) ≡ m → (j : ℕ) → j < m → is_some (f j) ≡ true
   all-counted zero e j l = absurd (omega arith)
   all-counted (suc m) e j l =
-      by_test (shows (f m))
+      by_test (is_some (f m))
       (λ y. by_test (eqb j m)
       (λ z. let same : j ≡ m = eqb-true j m z in rw same y)
       (λ n. all-counted m (omega (arith, rw y at (count m))) j (omega (arith, eqb-false j m n))))
       (λ n. absurd (omega (arith, rw n at (count m), count_within m)))
 
 -- ---- what is shown of a slot at one of several versions
-abbrev pub any_shown : View → List ℕ → ℕ → ℕ → Seen
+abbrev pub any_shown : View → List ℕ → ℕ → ℕ → Option Row
 any_shown T [] run k = T.shown run k
-any_shown T (s ∷ ss) run k = either (T.shown s k) (any_shown T ss run k)
+any_shown T (s ∷ ss) run k = option_or (T.shown s k) (any_shown T ss run k)
 
 abbrev pub AllOpen : ℕ → Followed → List ℕ → Type 0
 AllOpen n g [] = Unit {0}
@@ -108,35 +98,34 @@ pub open_versions_lem : (n : ℕ) (g : Followed) → AllOpen n g (open_versions 
 open_versions_lem n g = all_open n g (suc (current g)) (omega arith)
 
 -- a slot shows a row at one of several versions if it does at the run's number or at one of them, and none if it does at none
-either-shows : (one other : Seen) → shows (either one other) ≡ shows one || shows other
-either-shows (seen.Row p q a b) other = refl
-either-shows seen.NoRow other = refl
-either-shows (seen.Refused n) other = refl
+either_shows : (one other : Option Row) → is_some (option_or one other) ≡ is_some one || is_some other
+either_shows (Some r) other = refl
+either_shows None other = refl
 
 module _ (T : View) (n : ℕ) (g : Followed) (run j : ℕ) where
-  any_none : (ss : List ℕ) → AllOpen n g ss → ((s : ℕ) → Committed g s → (Gone n g s → ⊥) → T.shown s j ≡ seen.NoRow) → T.shown run j ≡ seen.NoRow
-      → any_shown T ss run j ≡ seen.NoRow
+  any_none : (ss : List ℕ) → AllOpen n g ss → ((s : ℕ) → Committed g s → (Gone n g s → ⊥) → T.shown s j ≡ None) → T.shown run j ≡ None
+      → any_shown T ss run j ≡ None
   any_none [] each none run_none = run_none
   any_none (s ∷ ss) each none run_none = rw (none s each.0 each.1) (any_none ss each.2 none run_none)
 
-  any_run : (ss : List ℕ) → shows (T.shown run j) ≡ true → shows (any_shown T ss run j) ≡ true
+  any_run : (ss : List ℕ) → is_some (T.shown run j) ≡ true → is_some (any_shown T ss run j) ≡ true
   any_run [] h = h
-  any_run (s ∷ ss) h = either-shows (T.shown s j) (any_shown T ss run j) ∙ rw (any_run ss h) (or-true (shows (T.shown s j)))
+  any_run (s ∷ ss) h = either_shows (T.shown s j) (any_shown T ss run j) ∙ rw (any_run ss h) (or-true (is_some (T.shown s j)))
 
-  any_in : (b s : ℕ) → s < b → is_open n g s ≡ true → shows (T.shown s j) ≡ true → shows (any_shown T (open_of n g (up_to b)) run j) ≡ true
+  any_in : (b s : ℕ) → s < b → is_open n g s ≡ true → is_some (T.shown s j) ≡ true → is_some (any_shown T (open_of n g (up_to b)) run j) ≡ true
   any_in zero s l o h = absurd (omega arith)
   any_in (suc b) s l o h =
       by_test (eqb s b)
-      (λ y. let e : s ≡ b = eqb-true s b y in rw (rw e at o) (either-shows (T.shown b j) _ ∙ rw (rw e at h)))
+      (λ y. let e : s ≡ b = eqb-true s b y in rw (rw e at o) (either_shows (T.shown b j) _ ∙ rw (rw e at h)))
       (λ ne. let rest = any_in b s (omega (arith, eqb-false s b ne)) o h in
-      by_test (is_open n g b) (λ y. rw y (either-shows (T.shown b j) _ ∙ rw rest (or-true (shows (T.shown b j))))) (λ e. rw e rest))
+      by_test (is_open n g b) (λ y. rw y (either_shows (T.shown b j) _ ∙ rw rest (or-true (is_some (T.shown b j))))) (λ e. rw e rest))
 
   -- so where a slot is free exactly when none shows a row of it
-  pub taken_open : (free : Bool) → (free ≡ true → T.shown run j ≡ seen.NoRow)
-      → (free ≡ true → (s : ℕ) → Committed g s → (Gone n g s → ⊥) → T.shown s j ≡ seen.NoRow)
-      → (free ≡ false → (shows (T.shown run j) ≡ true) ⊎ ((s : ℕ) × Committed g s × (Gone n g s → ⊥) × (shows (T.shown s j) ≡ true)))
-      → shows (any_shown T (open_versions n g) run j) ≡ not free
-  taken_open true unseen_run unseen visible = ap shows (any_none (open_versions n g) (open_versions_lem n g) (unseen refl) (unseen_run refl))
+  pub taken_open : (free : Bool) → (free ≡ true → T.shown run j ≡ None)
+      → (free ≡ true → (s : ℕ) → Committed g s → (Gone n g s → ⊥) → T.shown s j ≡ None)
+      → (free ≡ false → (is_some (T.shown run j) ≡ true) ⊎ ((s : ℕ) × Committed g s × (Gone n g s → ⊥) × (is_some (T.shown s j) ≡ true)))
+      → is_some (any_shown T (open_versions n g) run j) ≡ not free
+  taken_open true unseen_run unseen visible = ap is_some (any_none (open_versions n g) (open_versions_lem n g) (unseen refl) (unseen_run refl))
   taken_open false unseen_run unseen visible =
       ⊎_elim (any_run (open_versions n g))
       (λ x. any_in (suc (current g)) x.0 (omega (arith, x.1.to)) (open_is n g x.0 x.1.from x.2) x.3) (visible refl)
@@ -151,27 +140,26 @@ module _ (g : Followed) (in_run : g.begun ≡ suc (current g)) where
   pub current-alone : open_versions 2 g ≡ current g ∷ []
   current-alone = rw (open_is 2 g (current g) (omega arith) (λ h. omega arith), none_before (current g) (omega arith))
 
-either_owned : (has : ℤ → ℤ → Bool) (one other : Seen) → Owned has one → Owned has other → Owned has (either one other)
-either_owned has (seen.Row p q a b) other x y = x
-either_owned has seen.NoRow other x y = y
-either_owned has (seen.Refused n) other x y = absurd x
+either_owned : (has : ℤ → ℤ → Bool) (one other : Option Row) → Owned has one → Owned has other → Owned has (option_or one other)
+either_owned has (Some r) other x y = x
+either_owned has None other x y = y
 
 module _ (T : View) where
   pub any_owned : (ss : List ℕ) (run k : ℕ) → Owned (T.has k) (any_shown T ss run k)
   any_owned [] run k = T.owned run k
   any_owned (s ∷ ss) run k = either_owned (T.has k) (T.shown s k) (any_shown T ss run k) (T.owned s k) (any_owned ss run k)
 
-  module _ (distinct : Distinct T) (f g : ℕ → Seen) (own-f : (k : ℕ) → Owned (T.has k) (f k)) (own-g : (k : ℕ) → Owned (T.has k) (g k)) where
+  module _ (distinct : Distinct T) (f g : ℕ → Option Row) (own-f : (k : ℕ) → Owned (T.has k) (f k)) (own-g : (k : ℕ) → Owned (T.has k) (g k)) where
     -- a slot's key is held exactly when the slot shows a row; so the rows beside are those of the slots that show none
     beside_rows : (m j : ℕ) → j ≤ m → beside (rows_for f (up_to m)) (rows_for g (up_to j)) ≡ rows_for (λ k. alone (f k) (g k)) (up_to j)
     beside_rows m zero l = refl
     beside_rows m (suc j) l =
         let rest = beside_rows m j (omega arith) in
-        by_row (λ r. beside (rows_for f (up_to m)) (rows_of r ++ rows_for g (up_to j)) ≡ rows_of (alone (f j) r) ++ rows_for (λ k. alone (f k) (g k)) (up_to j)) (g j) (own-g j)
-        (λ p q a b h. rw (held_here distinct f own-f j m p q (omega arith) h, rest) (by_test (shows (f j)) (λ y. rw y) (λ e. rw e)))
-        (by_test (shows (f j)) (λ y. rw y rest) (λ e. rw e rest))
+        by_row (λ r. beside (rows_for f (up_to m)) (option_to_list r ++ rows_for g (up_to j)) ≡ option_to_list (alone (f j) r) ++ rows_for (λ k. alone (f k) (g k)) (up_to j)) _ (g j) (own-g j)
+        (λ x h. rw (held_here distinct f own-f j m x.key1 x.key2 (omega arith) h, rest) (by_test (is_some (f j)) (λ y. rw y) (λ e. rw e)))
+        (by_test (is_some (f j)) (λ y. rw y rest) (λ e. rw e rest))
 
-    together_rows : (m : ℕ) → Permᴰ (together (rows_for f (up_to m)) (rows_for g (up_to m))) (rows_for (λ k. either (f k) (g k)) (up_to m))
+    together_rows : (m : ℕ) → Permᴰ (together (rows_for f (up_to m)) (rows_for g (up_to m))) (rows_for (λ k. option_or (f k) (g k)) (up_to m))
     together_rows m = rw (beside_rows m m (omega arith)) (either_rows f g m)
 
 -- ---- where the invariant holds and a run is active: no room, by the slots and by the databases
@@ -186,8 +174,8 @@ module _ {n m : ℕ} {T : View} {g : Followed} (i : Inv n m T g) (a : g.active �
       Permᴰ.trans (together-perm (Permᴰ.symm (i.rows s each.0 each.1)) (held_rows ss each.2))
       (together_rows T i.distinct (T.shown s) (any_shown T ss (suc (current g))) (T.owned s) (any_owned T ss (suc (current g))) m)
 
-  module _ (ss : List ℕ) (each : AllOpen n g ss) (free : ℕ → Bool) (taken : (j : ℕ) → j < m → shows (any_shown T ss (suc (current g)) j) ≡ not (free j)) (p q : ℤ) where
-    abbrev sees : ℕ → Seen
+  module _ (ss : List ℕ) (each : AllOpen n g ss) (free : ℕ → Bool) (taken : (j : ℕ) → j < m → is_some (any_shown T ss (suc (current g)) j) ≡ not (free j)) (p q : ℤ) where
+    abbrev sees : ℕ → Option Row
     sees = any_shown T ss (suc (current g))
 
     abbrev held : Database

@@ -1,13 +1,9 @@
 -- What is followed only grows: runs that have begun, databases committed; a committed database is never altered, since a run adds
 -- to the end of the log: so after a change and after a roll back, which touch no run that was committed, after a begin, and
 -- after a commit. And a run makes its database of the one before. By induction on the runs. Assumes nothing.
-use mathlib.Core.Path.{◌≡◌, refl, ap, ◌∙◌}
-use mathlib.Core.Bool.{Bool}
-use mathlib.Core.List.{List, [], ◌∷◌, ◌++◌}
-use Prim.Native.Nat.{ℕ, zero, suc, ◌-◌, ◌≤◌, ◌<◌}
-use native.Mathlib.Omega.{arith}
-use lib.ListN.{length, length-append, get_or}
-use lib.Seq.{get_or-append_seam}
+use Rattle.std.specs.Prelude.{◌≡◌, refl, Bool, List, [], ◌∷◌, ◌++◌, ℕ, zero, suc, ◌-◌, ◌≤◌, ◌<◌, length, get_or}
+use Rattle.std.proofs.Common.{ap, ◌∙◌, arith, length-append}
+use Rattle.std.proofs.Math.Seq.{get_or-append_seam}
 use Rattle.history.specs.Databases.{Database, Change, changed, made_by}
 use Rattle.history.specs.Followed.{Followed, current, changes_of, after_runs, database_at, running, Committed, with_change, with_changes, run_begun, run_committed}
 

@@ -1,11 +1,9 @@
 -- The invariant of a history, over a view of a table of m slots that keeps n versions: at each committed version that is not
 -- gone, the rows shown are a permutation of its database, and in a run those at the run's number are a permutation of the
 -- running database. It holds at a start. What keeps it is a step, and a step after a step is one. Assumes nothing.
-use mathlib.Core.Path.{◌≡◌, refl, ◌∙◌}
-use mathlib.Core.Bool.{true, false}
-use mathlib.Core.List.{[], Permᴰ}
-use Prim.Native.Nat.{ℕ, suc, ◌-◌, ◌≤◌}
-use native.Mathlib.Omega.{arith}
+use Rattle.std.specs.Prelude.{◌≡◌, refl, true, false, [], ℕ, suc, ◌-◌, ◌≤◌}
+use Rattle.std.proofs.Common.{◌∙◌, arith}
+use mathlib.Core.List.{Permᴰ}
 use Rattle.laws.specs.TestLaws.{clash}
 use Rattle.history.specs.Databases.{Database}
 use Rattle.history.specs.Followed.{Followed, starting, current, database_at, running, Committed, Gone}

@@ -10,6 +10,7 @@ pub mod Fullness
 pub mod Argument
 pub mod Once
 pub mod Promises
+pub mod Accepted
 pub mod Recorded
 pub mod Table
 pub mod Steps

@@ -1,11 +1,9 @@
 -- No key stands twice in a database that is followed, from the log alone: a change puts its row in place of what the key had, or
 -- takes it out, and what is left without a key has no key that was not there. So by changes, by runs, and by what is heard of
 -- every call no key stands twice. Assumes nothing.
-use mathlib.Core.Path.{◌≡◌, refl, ap₂, ◌∙◌}
-use mathlib.Core.Bool.{false, ◌||◌}
-use mathlib.Core.List.{List, [], ◌∷◌}
-use Prim.Native.Nat.{ℕ, zero, suc, ◌-◌}
-use lib.IntN.{ℤ}
+use Rattle.std.specs.Prelude.{not, ◌≡◌, refl, false, ◌||◌, List, [], ◌∷◌, ℕ, zero, suc, ◌-◌, ℤ}
+use Rattle.std.proofs.Common.{ap, ap₂, ◌∙◌}
+use Rattle.std.proofs.lemmas.Map.Views.{any-filter_same}
 use Rattle.laws.specs.TestLaws.{by_test}
 use Rattle.history.specs.Databases.{Database, is_key, holds, NoRepeat, without, Change, gives, takes_out, changed, made_by}
 use Rattle.history.specs.Followed.{Followed, current, after_runs, database_at, running, Heard, went_in, began_run, committed_run, rolled_back_run, loaded_block, with_changes, with_change, hear}
@@ -14,8 +12,7 @@ use Rattle.history.proofs.DatabaseLaws.{neither}
 
 -- ---- what is left without a key
 lacks_it : (p q : ℤ) (d : Database) → holds p q (without p q d) ≡ false
-lacks_it p q [] = refl
-lacks_it p q (r ∷ d) = by_test (is_key p q r) (λ y. rw y (lacks_it p q d)) (λ n. rw (n, n) (lacks_it p q d))
+lacks_it p q = any-filter_same (is_key p q) (λ r. not (is_key p q r)) false (λ r. ap not)
 
 lacks_still : (p q p' q' : ℤ) (d : Database) → holds p' q' d ≡ false → holds p' q' (without p q d) ≡ false
 lacks_still p q p' q' [] h = refl

@@ -1,12 +1,8 @@
 -- From what a kind of table supplies to every promise of demand 3: `kept`, wherever all is well; `from`, after every history from
 -- such a start; `demanded`, after every history from a fresh one. A read answers what the view shows, which is the database's; a
 -- session's answers are readings of the view, whose rows stay while its version does. Assumes nothing.
-use mathlib.Core.Path.{◌≡◌, sym, ap, subst, ◌∙◌}
-use mathlib.Core.Bool.{true, not}
-use mathlib.Core.List.{List, [], ◌∷◌}
-use Prim.Native.Nat.{ℕ, suc, ◌<◌}
-use native.Mathlib.Omega.{arith}
-use lib.IntN.{ℤ, pos}
+use Rattle.std.specs.Prelude.{◌≡◌, true, not, List, [], ◌∷◌, ℕ, suc, ◌<◌, ℤ, pos, Ok, is_some}
+use Rattle.std.proofs.Common.{sym, ap, subst, ◌∙◌, arith}
 use Rattle.laws.specs.TestLaws.{by_order, clash}
 use Rattle.calls.specs.Calls as answer
 use Rattle.history.specs.Databases.{holds, NoRepeat, made_by, rolled_up}
@@ -14,7 +10,7 @@ use Rattle.history.specs.Followed.{fresh_start, current, database_at, running, C
 use Rattle.history.specs.Kinds.{Kind, accepted, World, fresh_world, next, after, NoLoad}
 use Rattle.history.specs.SessionTurns.{Turn, mine, other, calls_of, slots_asked, answers_got, NoneRefused, rows_got}
 use Rattle.history.specs.Demand.{IsGone, Shows, answered, KeyReads, RollUps, SlotReads, Sessions, IsFull, Fullness, Changes, Incident, Databases, Kept, Demanded}
-use Rattle.history.proofs.DatabaseLaws.{shows, rolled_perm}
+use Rattle.history.proofs.DatabaseLaws.{rolled_perm}
 use Rattle.history.proofs.Growth.{grown, current_committed, run_made, running_with, last_database}
 use Rattle.history.proofs.Reading.{key_row, slot_row, region-sums, key_live_lem, Readings, none, moved, read, session_rows}
 use Rattle.history.proofs.Fullness.{any_shown, open_versions_lem, taken_open, NoRoom, full_room, room_full}
@@ -28,7 +24,7 @@ module _ {K : Kind} (A : Argument K) where
         let r = A.reads m w i in
         record {
           gone = λ h. r.key_gone c h key1 key2;
-          kept = λ still. r.key_shown c still key1 key2 ∙ ap answer.seen (key_row i.inv c still (A.placed m w i key1 key2));
+          kept = λ still. r.key_shown c still key1 key2 ∙ ap (λ r. answer.seen (Ok r)) (key_row i.inv c still (A.placed m w i key1 key2));
         }
 
     roll_ups_lem : RollUps w
@@ -36,7 +32,7 @@ module _ {K : Kind} (A : Argument K) where
         let r = A.reads m w i in
         record {
           gone = λ h. r.sums_gone c h key1;
-          kept = λ still. r.sums-shown c still key1 ∙ ap answer.rolled (region-sums i.inv c still key1);
+          kept = λ still. r.sums-shown c still key1 ∙ ap (λ r. answer.rolled (Ok r)) (region-sums i.inv c still key1);
         }
 
     slot_reads_lem : SlotReads m w
@@ -52,7 +48,7 @@ module _ {K : Kind} (A : Argument K) where
               let c' = grown x.step.grows c in
               let before : IsGone w s → ⊥ = λ z. still (omega (arith, x.step.grows.begun)) in
               by_order k m
-              (λ l. r'.slot-shown c' still k l ∙ ap answer.seen (x.step.stays s c still k) ∙ sym (r.slot-shown c before k l))
+              (λ l. r'.slot-shown c' still k l ∙ ap (λ r. answer.seen (Ok r)) (x.step.stays s c still k) ∙ sym (r.slot-shown c before k l))
               (λ l. r'.slot-past c' still k l ∙ sym (r.slot-past c before k l));
         }
 
@@ -79,7 +75,7 @@ module _ {K : Kind} (A : Argument K) where
     live-held : (key1 key2 : ℤ) → live_at (A.view w) (A.place w) w key1 key2 ≡ holds key1 key2 (running w.told)
     live-held key1 key2 = key_live_lem i.inv a (A.placed m w i key1 key2)
 
-    taken : (j : ℕ) → j < m → shows (any_shown (A.view w) (open_versions K.keeps w.told) (suc (current w.told)) j) ≡ not (A.free w j)
+    taken : (j : ℕ) → j < m → is_some (any_shown (A.view w) (open_versions K.keeps w.told) (suc (current w.told)) j) ≡ not (A.free w j)
     taken j l =
         let r = A.rooms m w i a in
         taken_open (A.view w) K.keeps w.told (suc (current w.told)) j (A.free w j) (r.unseen_run j l) (r.unseen j l) (r.visible j l)
@@ -116,7 +112,7 @@ module _ {K : Kind} (A : Argument K) where
     incident s c turns each h no_load still region =
         let x = after_step A m w i h no_load in
         (roll_ups_lem m (after h w) (went_well A x) s (grown x.step.grows c) region).kept still
-        ∙ ap answer.rolled (ap (rolled_up region) (x.step.grows.databases s c) ∙ sym (rolled_perm region (sessions s c turns each)))
+        ∙ ap (λ r. answer.rolled (Ok r)) (ap (rolled_up region) (x.step.grows.databases s c) ∙ sym (rolled_perm region (sessions s c turns each)))
 
     databases : NoRepeat w.told.opening → Databases w
     databases once = record {

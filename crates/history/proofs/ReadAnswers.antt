@@ -1,10 +1,7 @@
 -- What reads of the table of two versions answer where all is well: refused by 4 exactly when the version is gone, and else what
 -- the view shows, since the shape and the record are sound, the session is born, and no slot is broken. Assumes nothing.
-use mathlib.Core.Path.{◌≡◌, refl, ap, ◌∙◌}
-use mathlib.Core.Bool.{false}
-use mathlib.Core.List.{List, ◌∷◌, map}
-use Prim.Native.Nat.{ℕ, zero, suc}
-use lib.IntN.{ℤ, pos}
+use Rattle.std.specs.Prelude.{◌≡◌, refl, false, List, ◌∷◌, map, ℕ, zero, suc, ℤ, pos}
+use Rattle.std.proofs.Common.{ap, ◌∙◌}
 use Rattle.table.specs.Slots.{bad_table, slot_at}
 use Rattle.table_forms.specs.FormedLaws.{all_formed}
 use Rattle.table_keys.specs.Keys.{key_slot}

@@ -1,19 +1,15 @@
 -- What is read where the invariant holds, at a committed version that is not gone: the rows shown are a permutation of its
 -- database, so a key's row, a slot's row and the counts and sums of a region are the database's. A session that reads each slot once, at
 -- any places of what follows, gets a permutation of it, since a step keeps what each slot shows there. Assumes nothing.
-use mathlib.Core.Path.{◌≡◌, refl, sym, ap, ◌∙◌}
-use mathlib.Core.Bool.{true}
-use mathlib.Core.Logic.{∥∥₁_map}
-use mathlib.Core.List.{List, [], ◌∷◌, ◌++◌, map, Perm}
-use Prim.Native.Nat.{ℕ, zero, suc, ◌≤◌, ◌<◌}
-use native.Mathlib.Omega.{arith}
-use lib.IntN.{ℤ}
-use lib.ListN.{length}
+use Rattle.std.specs.Prelude.{◌≡◌, refl, true, List, [], ◌∷◌, ◌++◌, map, ℕ, zero, suc, ◌≤◌, ◌<◌, ℤ, length, is_some, option_to_list}
+use Rattle.std.proofs.Common.{sym, ap, ◌∙◌, arith}
+use Rattle.std.proofs.Math.Logic.{∥∥₁_map}
+use mathlib.Core.List.{Perm}
 use Rattle.laws.specs.Permutations.{perm-length}
 use Rattle.calls.specs.Terms.{tally, sums}
-use Rattle.history.specs.Databases.{Database, holds, found, IsOf, rolled_up, rows_of, up_to}
+use Rattle.history.specs.Databases.{Database, holds, found, IsOf, rolled_up, up_to}
 use Rattle.history.specs.Followed.{Followed, current, database_at, running, Committed, Gone}
-use Rattle.history.proofs.DatabaseLaws.{holds-perm, found-perm, rolled_perm, tally-region, shows, held_found}
+use Rattle.history.proofs.DatabaseLaws.{holds-perm, found-perm, rolled_perm, tally-region, held_found}
 use Rattle.history.proofs.Rows.{rows_for, rows_perm}
 use Rattle.history.proofs.Views.{View, rows_at, Place, by_row, rows_norepeat, found_here, found-place, tally_rows}
 use mathlib.Core.List.Permᴰ
@@ -31,24 +27,24 @@ module _ {n m : ℕ} {T : View} {g : Followed} (i : Inv n m T g) where
     -- a slot shows no row, or a row of the database
     pub slot_row : (k : ℕ) → k < m → IsOf (database_at g s) (T.shown s k)
     slot_row k l =
-        by_row (λ r. T.shown s k ≡ r → IsOf (database_at g s) r) (T.shown s k) (T.owned s k)
-        (λ p q a b h e. sym (found_rows p q) ∙ found_here i.distinct (T.shown s) (T.owned s) k m p q l h ∙ e) (λ e. tt) refl
+        by_row (λ r. T.shown s k ≡ r → IsOf (database_at g s) r) _ (T.shown s k) (T.owned s k)
+        (λ x h e. sym (found_rows x.key1 x.key2) ∙ found_here i.distinct (T.shown s) (T.owned s) k m x.key1 x.key2 l h ∙ e) (λ e. tt) refl
 
     pub region-sums : (key1 : ℤ) → sums (tally key1 (map (T.shown s) (up_to m))) ≡ rolled_up key1 (database_at g s)
     region-sums key1 =
         ap sums (tally_rows i.distinct (T.shown s) (T.owned s) key1 m) ∙ tally-region key1 (rows_at T s m) ∙ rolled_perm key1 ∣ i.rows s c kept ∣₁
 
   -- in a run a key is in the running database exactly when its place shows a row at the run's number
-  pub key_live_lem : g.active ≡ true → {p q : ℤ} {k : ℕ} → Place T m p q k → shows (T.shown (suc (current g)) k) ≡ holds p q (running g)
+  pub key_live_lem : g.active ≡ true → {p q : ℤ} {k : ℕ} → Place T m p q k → is_some (T.shown (suc (current g)) k) ≡ holds p q (running g)
   key_live_lem a {p} {q} at_place =
-      ap shows (sym (found-place i.distinct at_place (suc (current g)))) ∙ sym (held_found p q (rows_at T (suc (current g)) m)) ∙ holds-perm p q (i.top a)
+      ap is_some (sym (found-place i.distinct at_place (suc (current g)))) ∙ sym (held_found p q (rows_at T (suc (current g)) m)) ∙ holds-perm p q (i.top a)
 
 -- ---- the reads of a session, in its order, with steps between: the slots that it asks for, and the rows that it gets
 pub data Readings (n m s : ℕ) : View → Followed → List ℕ → Database → Type 0 where
   none : {T : View} {g : Followed} → Readings n m s T g [] []
   moved : {T T' : View} {g g' : Followed} {ks : List ℕ} {d : Database} → Step n m T g T' g' → Readings n m s T' g' ks d → Readings n m s T g ks d
   read : {T : View} {g : Followed} {ks : List ℕ} {d : Database} (k : ℕ) → (Gone n g s → ⊥) → Readings n m s T g ks d
-      → Readings n m s T g (k ∷ ks) (rows_of (T.shown s k) ++ d)
+      → Readings n m s T g (k ∷ ks) (option_to_list (T.shown s k) ++ d)
 
 module _ {n m s : ℕ} {from : View} {g₀ : Followed} (c : Committed g₀ s) where
   -- the rows are those that the slots showed at the start

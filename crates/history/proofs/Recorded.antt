@@ -1,14 +1,9 @@
 -- The version record of two versions in a history: it is sound, says what was followed, and expires a committed version exactly
 -- when that is gone. So at a start, at whatever version; a change leaves it so, and so do begin, which makes current the oldest open
 -- version, and commit and roll back, which keep it. Assumes nothing.
-use mathlib.Core.Path.{◌≡◌, refl, sym, ap, ◌∙◌}
-use mathlib.Core.Bool.{true, false}
-use Prim.Native.Nat.{ℕ, suc, ◌+◌, ◌≤◌}
-use native.Mathlib.Numerals.{add-one}
-use native.Mathlib.Omega.{arith}
-use lib.Dec.{leb, ltb}
-use lib.IntN.{pos, nat_abs, ◌+ℤ◌}
-use borrow.Author.Tests.{ltb-true, ltb-false, le-ltb, le-leb, lt-leb}
+use Rattle.std.specs.Prelude.{◌≡◌, refl, true, false, ℕ, suc, ◌+◌, ◌≤◌, leb, ltb, pos, nat_abs, ◌+ℤ◌, None}
+use Rattle.std.proofs.Common.{sym, ap, ◌∙◌, add-one, arith, ltb-true, ltb-false, le-ltb, le-leb}
+use Rattle.std.proofs.lemmas.Bool.{lt-leb}
 use Rattle.laws.specs.TestLaws.{by_test}
 use Rattle.versions.specs.declared.VersionRecord.{VersionRecord}
 use Rattle.versions.specs.Record.{bad_record, run_number}
@@ -74,7 +69,7 @@ module _ {v : VersionRecord} {g : Followed} (x : Recorded v g) where
     expiry = λ s h. x.expiry s (record { from = h.from; to = h.to });
   }
 
-  pub begin_recorded : begin_refusal v ≡ 0 → Recorded (begun_from v) (run_begun g)
+  pub begin_recorded : begin_refusal v ≡ None → Recorded (begun_from v) (run_begun g)
   begin_recorded h = record {
     known = begun-sound v h;
     origin = x.origin;
@@ -93,7 +88,7 @@ module _ {v : VersionRecord} {g : Followed} (x : Recorded v g) where
     expiry = λ s c. expires (rolled_back_from v) (current g) s ((sound x.known).newest a ∙ x.version) ∙ rw begun (below_gone (current g) s);
   }
 
-  module _ (h : commit_refusal v ≡ 0) where
+  module _ (h : commit_refusal v ≡ None) where
     pub commit_runs : g.active ≡ true
     commit_runs = sym x.active ∙ (can_commit v h).active
 

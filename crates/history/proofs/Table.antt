@@ -2,16 +2,9 @@
 -- search finds a key's place. An accepted change writes one slot to its effect; at a begin no slot is of a run above current, so
 -- that the next number shows what current shows; a roll back leaves what current shows of each slot. What the table itself keeps in
 -- a history is `Sound`. Assumes nothing.
-use mathlib.Core.Path.{◌≡◌, refl, sym, ◌∙◌}
-use mathlib.Core.Bool.{true}
-use mathlib.Core.Logic.{⊎_elim}
-use mathlib.Core.List.{List, []}
-use Prim.Native.Nat.{ℕ, zero, suc, ◌+◌}
-use native.Mathlib.Omega.{arith}
-use lib.Dec.{ltb}
-use lib.IntN.{ℤ, pos}
-use lib.Signed.{le_z}
-use borrow.Author.Tests.{ltb-true, ltb-false, le-leb}
+use Rattle.std.specs.Prelude.{◌≡◌, refl, true, List, [], ℕ, zero, suc, ◌+◌, ltb, ℤ, pos, Option, None}
+use Rattle.std.specs.Int.Signed.{le_z}
+use Rattle.std.proofs.Common.{sym, ◌∙◌, ⊎_elim, arith, ltb-true, ltb-false, le-leb}
 use Rattle.laws.specs.TestLaws.{by_test, clash}
 use Rattle.laws.specs.OrderLaws.{le_z_refl, le_z_trans, from_to_lem}
 use Rattle.versions.specs.declared.VersionRecord.{VersionRecord}
@@ -24,7 +17,7 @@ use Rattle.table.specs.SlotLaws.{put_length, fresh_slots, fresh_shape, fresh_slo
 use Rattle.table_forms.specs.FormedLaws.{formed_cases, formed_later, empty_formed}
 use Rattle.table_keys.specs.Keys.{has_key, key_slot}
 use Rattle.table_keys.specs.KeyLaws.{has_key_lem, keyed_has, key_slot_is, empty_keyless, absent_empty, absent_nowhere}
-use Rattle.reads.specs.declared.Seen.{Seen}
+use Rattle.reads.specs.declared.Row.{Row}
 use Rattle.reads.specs.Table1.{shown}
 use Rattle.reads.specs.Table1Laws.{shown-empty}
 use Rattle.reads.specs.ShownLaws.{shown_own, shown_later}
@@ -82,7 +75,7 @@ module _ {m : ℕ} {t : List ℤ} {v : VersionRecord} {g : Followed} (x : Sound 
       nowhere (absent_nowhere t key1 key2 x.whole.shape past) (λ s. rw (absent_empty t key1 key2 x.whole.shape past) (shown-empty (pos s))))
 
   -- ---- a change in a run, in which the one open version is current
-  module _ (i : Inv 2 m (view_of t) g) (a : g.active ≡ true) {key1 key2 : ℤ} {after : Seen} {k : ℕ} {t' : List ℤ} (w : Wrote t v key1 key2 after k t') where
+  module _ (i : Inv 2 m (view_of t) g) (a : g.active ≡ true) {key1 key2 : ℤ} {after : Option Row} {k : ℕ} {t' : List ℤ} (w : Wrote t v key1 key2 after k t') where
     written : slot_at t' k ≡ w.slot
     written = written-slot t v key1 key2 after k t' x.whole w
 
@@ -110,7 +103,7 @@ module _ {m : ℕ} {t : List ℤ} {v : VersionRecord} {g : Followed} (x : Sound 
   later_whole : {v' : VersionRecord} → le_z (last_run v) (last_run v') ≡ true → Whole t v'
   later_whole {v'} l = record { shape = x.whole.shape; formed = λ k. formed_later (slot_at t k) v v' l (x.whole.formed k) }
 
-  module _ (h : begin_refusal v ≡ 0) where
+  module _ (h : begin_refusal v ≡ None) where
     pub same_above : (j : ℕ) → shown (pos (suc (current g))) (slot_at t j) ≡ shown (pos (current g)) (slot_at t j)
     same_above j =
         formed_cases (slot_at t j) v (x.whole.formed j)
@@ -127,7 +120,7 @@ module _ {m : ℕ} {t : List ℤ} {v : VersionRecord} {g : Followed} (x : Sound 
       recorded = begin_recorded x.recorded h;
     }
 
-  pub commit_sound : Inv 2 m (view_of t) g → commit_refusal v ≡ 0 → Sound m t (committed_from v) (run_committed g)
+  pub commit_sound : Inv 2 m (view_of t) g → commit_refusal v ≡ None → Sound m t (committed_from v) (run_committed g)
   commit_sound i h = record {
     size = x.size;
     whole = later_whole (rw (can_commit v h).active (le_z_refl (run_number v)));
@@ -135,7 +128,7 @@ module _ {m : ℕ} {t : List ℤ} {v : VersionRecord} {g : Followed} (x : Sound 
   }
 
   -- ---- a roll back puts every slot back: a run is active, so the one open version is current, which sees what it saw
-  module _ (i : Inv 2 m (view_of t) g) (h : roll_back_refusal t v ≡ 0) where
+  module _ (i : Inv 2 m (view_of t) g) (h : roll_back_refusal t v ≡ None) where
     can : CanRollBack t v
     can = can_roll_back t v h
 

@@ -1,13 +1,9 @@
 -- Begin, commit and roll back are steps. Begin and commit write no slot: at a begin the run's number shows what current
 -- shows, whose rows are the current database, which is the running one; at a commit that number becomes current. A roll back
 -- leaves what the open versions show, and the run has begun. Assumes nothing.
-use mathlib.Core.Path.{◌≡◌, refl}
-use mathlib.Core.Bool.{true}
-use Prim.Native.Nat.{ℕ, suc}
-use native.Mathlib.Omega.{arith}
-use lib.Dec.{eqb}
-use lib.IntN.{ℤ}
-use borrow.Author.Tests.{eqb-true, eqb-false}
+use Rattle.std.specs.Prelude.{◌≡◌, refl, true, ℕ, suc, eqb, ℤ}
+use Rattle.std.proofs.Common.{arith, eqb-true}
+use Rattle.std.proofs.lemmas.Bool.{eqb-false}
 use Rattle.laws.specs.TestLaws.{by_test, clash}
 use Rattle.history.specs.Followed.{Followed, current, Committed, Gone, run_begun, run_committed, run_rolled_back}
 use Rattle.history.proofs.Rows.{rows_same}

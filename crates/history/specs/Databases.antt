@@ -1,8 +1,8 @@
 -- A database: keys with totals, no key twice. What a change makes of one, what a read of one answers, and the keys that several
 -- hold together. No table word is read here. Assumes nothing.
-use Rattle.std.specs.Prelude.{◌≡◌, Bool, false, cond, not, ◌&&◌, ◌||◌, List, [], ◌∷◌, ◌++◌, ℕ, zero, suc, ℤ, pos, ◌+ℤ◌, length, Option, Some, None, Result, Ok, Err}
+use Rattle.std.specs.Prelude.{◌≡◌, Bool, false, not, ◌&&◌, List, [], ◌∷◌, ◌++◌, filter, find, ℕ, zero, suc, ℤ, pos, ◌+ℤ◌, length, Option, Some, None}
+use Rattle.std.specs.List.{list_any}
 use Rattle.calls.specs.Rows.{Row, Sums}
-use Rattle.calls.specs.Refusals.{Refusal}
 use Rattle.calls.specs.Terms.{eq_z, not_reported}
 
 -- rows, each a key of two words and two totals
@@ -18,23 +18,17 @@ is_key key1 key2 r = eq_z r.key1 key1 && eq_z r.key2 key2
 
 -- some row has it
 abbrev pub holds : ℤ → ℤ → Database → Bool
-holds key1 key2 [] = false
-holds key1 key2 (r ∷ d) = is_key key1 key2 r || holds key1 key2 d
+holds key1 key2 d = list_any (is_key key1 key2) d
 
 -- no key twice
 abbrev pub NoRepeat : Database → Type 0
 NoRepeat [] = Unit {0}
 NoRepeat (r ∷ d) = (holds r.key1 r.key2 d ≡ false) × NoRepeat d
 
--- the rows that pass a test
-abbrev pub those : (Row → Bool) → Database → Database
-those test [] = []
-those test (r ∷ d) = cond (test r) (r ∷ those test d) (those test d)
-
 -- ---- changes
 -- the rows of other keys
 abbrev pub without : ℤ → ℤ → Database → Database
-without key1 key2 d = those (λ r. not (is_key key1 key2 r)) d
+without key1 key2 d = filter (λ r. not (is_key key1 key2 r)) d
 
 -- a key is given two totals, or is taken out
 pub data Change : Type 0 where
@@ -54,8 +48,7 @@ made_by (c ∷ changes) d = made_by changes (changed c d)
 -- ---- what a read answers
 -- the row of a key, or no row
 abbrev pub found : ℤ → ℤ → Database → Option Row
-found key1 key2 [] = None
-found key1 key2 (r ∷ d) = cond (is_key key1 key2 r) (Some r) (found key1 key2 d)
+found key1 key2 d = find (is_key key1 key2) d
 
 -- no row, or the row that the database has of its key
 abbrev pub IsOf : Database → Option Row → Type 0
@@ -65,11 +58,11 @@ IsOf d None = Unit {0}
 -- ---- the roll-up of a region
 -- a region: the rows with a first key word
 abbrev pub region : ℤ → Database → Database
-region key1 d = those (λ r. eq_z r.key1 key1) d
+region key1 d = filter (λ r. eq_z r.key1 key1) d
 
 -- of rows, those that report a total: it is not what says that it is not reported
 abbrev pub reporting : (Row → ℤ) → Database → Database
-reporting total d = those (λ r. not (eq_z (total r) not_reported)) d
+reporting total d = filter (λ r. not (eq_z (total r) not_reported)) d
 
 -- the sum of a total over rows
 abbrev pub sum_of : (Row → ℤ) → Database → ℤ
@@ -87,19 +80,14 @@ rolled_up key1 d =
       sum2 = sum_of (λ r. r.total2) (reporting (λ r. r.total2) (region key1 d));
     }
 
--- ---- the rows of what a read answers, and the numbers of slots
-abbrev pub rows_of : Result (Option Row) Refusal → Database
-rows_of (Ok (Some r)) = r ∷ []
-rows_of (Ok None) = []
-rows_of (Err e) = []
-
+-- ---- the numbers of slots
 abbrev pub up_to : ℕ → List ℕ
 up_to zero = []
 up_to (suc m) = m ∷ up_to m
 
 -- ---- the keys that databases hold together, each once: those of one, and those that the others have beside
 abbrev pub beside : Database → Database → Database
-beside a b = those (λ r. not (holds r.key1 r.key2 a)) b
+beside a b = filter (λ r. not (holds r.key1 r.key2 a)) b
 
 abbrev pub together : Database → Database → Database
 together a b = a ++ beside a b

@@ -1,9 +1,8 @@
 -- A kind of table, as demand 3 sees it: what is lent, the calls with their answers, and what is heard of each. Histories of it are
 -- lists of its calls, any numbers in them, from what is lent fresh; beside what is lent goes what is followed. Assumes nothing.
-use Rattle.std.specs.Prelude.{◌≡◌, Bool, true, false, List, [], ◌∷◌, ℕ, ◌≤◌, ℤ, pos, get_or}
-use Rattle.calls.specs.Terms.{eq_z, most_slots}
-use Rattle.calls.specs.Calls.{Answer}
-use Rattle.calls.specs.Numbers.{numbers}
+use Rattle.std.specs.Prelude.{◌≡◌, Bool, true, false, List, [], ◌∷◌, ℕ, ◌≤◌, ℤ, is_ok}
+use Rattle.calls.specs.Terms.{most_slots}
+use Rattle.calls.specs.Calls.{Answer, numbered, seen, rolled, placed, saved, header, loaded}
 use Rattle.history.specs.Followed.{Followed, fresh_start, Heard, went_in, began_run, committed_run, rolled_back_run, loaded_block, hear}
 
 pub record Kind : Type 1 where
@@ -29,9 +28,15 @@ pub record Kind : Type 1 where
   pub delete : ℤ → ℤ → Call
   pub roll_back : Call
 
--- ---- a call is accepted if its refusal number is 0
+-- ---- a call is accepted if what it answers is no refusal
 abbrev pub accepted : Answer → Bool
-accepted a = eq_z (get_or (numbers a) 0 (pos 0)) (pos 0)
+accepted (numbered r) = is_ok r
+accepted (seen r) = is_ok r
+accepted (rolled r) = is_ok r
+accepted (placed r) = is_ok r
+accepted (saved r) = is_ok r
+accepted (header r) = is_ok r
+accepted (loaded r) = is_ok r
 
 -- 1 to 1,024 slots
 pub record Size (m : ℕ) : Type 0 where

@@ -1,8 +1,8 @@
 -- A session among the other calls: it reads a slot, or another call is made. The slots that it asks for, the answers that it gets,
 -- and the rows in them. Assumes nothing.
-use Rattle.std.specs.Prelude.{◌≡◌, true, List, [], ◌∷◌, ◌++◌, ℕ, pos}
+use Rattle.std.specs.Prelude.{◌≡◌, true, List, [], ◌∷◌, ◌++◌, option_to_list, ℕ, pos, Ok, Err}
 use Rattle.calls.specs.Calls.{Answer, numbered, seen, rolled, placed, saved, header, loaded}
-use Rattle.history.specs.Databases.{Database, rows_of}
+use Rattle.history.specs.Databases.{Database}
 use Rattle.history.specs.Kinds.{Kind, accepted, World, answer_of, next}
 
 pub data Turn (K : Kind) : Type 0 where
@@ -38,7 +38,8 @@ NoneRefused (a ∷ l) = (accepted a ≡ true) × NoneRefused l
 -- the rows in what it gets
 abbrev pub rows_in : Answer → Database
 rows_in (numbered r) = []
-rows_in (seen r) = rows_of r
+rows_in (seen (Ok r)) = option_to_list r
+rows_in (seen (Err e)) = []
 rows_in (rolled r) = []
 rows_in (placed r) = []
 rows_in (saved r) = []

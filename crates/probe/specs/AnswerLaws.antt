@@ -4,9 +4,10 @@ use Rattle.refusals.specs.declared.Refusal.{Refusal}
 use Rattle.reads.specs.declared.Row.{Row}
 use Rattle.reads_roll_up.specs.declared.Sums.{Sums}
 use Rattle.blocks.specs.declared.Header.{Header}
+use Rattle.changes_rows.specs.PlacedNumbers.{Numbers, slot, refusal}
 use Rattle.calls.specs.Numbers.{of_numbered, of_seen, of_rolled, of_placed, of_header, of_done}
 use Rattle.probe.specs.Probed.{padded}
-use Rattle.probe.specs.Answers.{answered, version_numbers, slot_numbers, row_numbers, sums_numbers, header_numbers, no_numbers}
+use Rattle.probe.specs.Answers.{Fits, IsSlot, answered, version_numbers, slot_numbers, row_numbers, sums_numbers, header_numbers, no_numbers}
 
 pub numbered_padded : (r : Result ℤ Refusal) → padded (answered version_numbers r) ≡ padded (of_numbered r)
 numbered_padded (Ok n) = refl
@@ -32,3 +33,8 @@ header_padded (Err e) = refl
 pub done_padded : (r : Result (Unit {0}) Refusal) → padded (answered no_numbers r) ≡ padded (of_done r)
 done_padded (Ok x) = refl
 done_padded (Err e) = refl
+
+-- what a change answers is the number of a slot that a table can have, or a refusal
+pub numbers_fit : {r : Result ℕ Refusal} → Numbers r → Fits IsSlot r
+numbers_fit (slot l) = l
+numbers_fit refusal = tt

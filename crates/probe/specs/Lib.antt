@@ -1,4 +1,3 @@
 pub mod Probed
 pub mod Answers
 pub mod AnswerLaws
-pub mod Saves

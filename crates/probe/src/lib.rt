@@ -10,7 +10,6 @@ ghost use Rattle.probe.specs.Probed.{lent, out_after, table_after, record_after,
 
 mod numbers;
 mod records;
-mod saves;
 
 // open: current
 pub fn probe_open(record_words: &[i64; 4], out: &mut [i64; 8])
@@ -162,7 +161,9 @@ pub fn probe_save_header(
     ensures block_after { block.new ≡ block_after save_header (lent table.now record_words.now block.old) }
 {
     let saved = reader::save_header(table, records::version_of(record_words));
-    numbers::put_answer(out, saves::keep_block(block, saved));
+    let bytes = saved.block;
+    *block = bytes;
+    numbers::put_answer(out, saved.answer);
 }
 
 // save block: block k from 1
@@ -177,7 +178,9 @@ pub fn probe_save_block(
     ensures block_after { block.new ≡ block_after (save_block number) (lent table.now record_words.now block.old) }
 {
     let saved = reader::save_block(table, records::version_of(record_words), number);
-    numbers::put_answer(out, saves::keep_block(block, saved));
+    let bytes = saved.block;
+    *block = bytes;
+    numbers::put_answer(out, saved.answer);
 }
 
 // load header: slots, current, oldest

@@ -1,23 +1,19 @@
-// The face of the library: its calls, their answers, its types and its constants, and nothing else. A host names this crate and
+// The face of the library: its calls, its types and its constants, and nothing else. A host names this crate and
 // no other of ours; what the other crates have beside these are leaves for our own use.
 #![tactic(auto)]
 
 // The version record, with its largest version `VersionRecord::LARGEST` and the fresh record `VersionRecord::fresh`.
 pub use versions::VersionRecord;
-// What open, begin, commit and roll back answer: the number of a version, or a refusal.
-pub use versions_runs::Numbered;
-// What a slot or a key read answers: a row, no row, or a refusal.
-pub use reads::Seen;
-// What a roll-up answers: how many rows, how many of them reported each total, and both sums; or a refusal.
-pub use reads_roll_up::Rolled;
-// What a change answers: the number of its slot, or a refusal.
-pub use changes_rows::Placed;
-// What a save hands out: 0 or the refusal, and the block.
-pub use blocks_saves::Saved;
-// What load header answers: slots, current and the oldest open version, or a refusal.
+// Why a call is refused, by name. Each call answers a Result whose error it is.
+pub use refusals::Refusal;
+// A row, as a read of a slot or of a key shows it: two key words and two totals.
+pub use reads::Row;
+// What a roll-up comes to: how many rows, how many of them reported each total, and both sums.
+pub use reads_roll_up::Sums;
+// What a save hands out: its answer, and the block beside it, zeros where it is refused.
+pub use blocks::Saved;
+// What a header holds: slots, current and the oldest open version.
 pub use blocks::Header;
-// What load block answers: that it is done, or a refusal.
-pub use blocks::Loaded;
 
 // Open: the current version.
 pub use versions_runs::open;
@@ -30,15 +26,15 @@ pub use changes_roll_back::roll_back;
 // Begin, commit and roll back with the record handed over and back by value, and what they leave: the answer and the record.
 pub use changes_roll_back::roll_back_by_value;
 pub use versions_runs::{Turned, begin_by_value, commit_by_value};
-// Read a slot, at a session's version.
+// Read a slot, at a session's version: a row, or none.
 pub use reads::read_slot;
-// Read a key, at a session's version.
+// Read a key, at a session's version: its row, or none.
 pub use reads::read_key;
 // Roll up the rows with a first key word, at a session's version.
 pub use reads_roll_up::roll_up;
-// Give a key its totals, in a run, whether it has a row or not.
+// Give a key its totals, in a run, whether it has a row or not: the number of its slot.
 pub use changes::put;
-// Delete a row, in a run.
+// Delete a row, in a run: the number of its slot.
 pub use changes::delete;
 // Save block 0: slots, current and the oldest open version.
 pub use blocks::save_header;
@@ -55,9 +51,3 @@ pub use table::{MOST_WORDS, SLOT_WORDS};
 pub use table_forms::{HIGHEST_TOTAL, LOWEST_TOTAL, NOT_REPORTED};
 // The bytes of a block.
 pub use blocks::BLOCK_BYTES;
-// The refusals by name.
-pub use refusals::{
-    BAD_FIELD, BAD_RECORD, BAD_TABLE, BAD_TOTAL, BROKEN_SLOT, EXPIRED, KEY_NOT_LIVE, NO_RUN,
-    NO_SUCH_PLACE, NO_SUCH_VERSION, NO_VERSION_LEFT, NOT_BLOCK, RUN_ACTIVE, TABLE_FULL,
-    WRONG_CHECK,
-};

@@ -1,28 +1,13 @@
--- `blocks::save_block`: the refusal of the tests before 6 (`stop`), or past them (`pass`) what is handed out of its slots.
--- Assumes nothing.
-use Rattle.std.proofs.lemmas.Result.{err_from_is_err_and}
-use Rattle.refusals.specs.declared.Refusal.TheVariants as refusal
-use Rattle.laws.specs.FirstLaws.{none, pass, stop}
-use Rattle.blocks.specs.BlockTests.{block_tests}
-use Rattle.blocks.specs.FrontLaws.{within, given, not_given}
-use Rattle.blocks.specs.SaveBlock.{save_block_refusal, saved_block, save_block_answer}
-use Rattle.blocks.specs.ContractLaws.{block_not_saved}
+-- `blocks::save_block`: the answer and the block are those of what `made_block` makes. Assumes nothing.
+use Rattle.std.proofs.Common.{ap, ◌∙◌}
+use Rattle.blocks.specs.SavedParts.{answered, handed_out}
+use Rattle.blocks.specs.SaveBlock.{save_block_refusal, saved_block, save_block_block}
+use Rattle.blocks.specs.ContractLaws.{answered_by, handed_out_by}
 use Rattle.blocks.proofs.save_block.Goals as goal
 
-pub returns-in_err-test_block : goal.returns-in_err-test_block
-unfolding save_block_refusal
-returns-in_err-test_block c =
-    let p = err_from_is_err_and c.from_residual.result c.from_residual.ensures.1 in
-    rw (p.1, p.2) (block_not_saved (stop (block_tests _ _ c.args.number) _ _ (given _ c.test_block.ensures c.in_err-test_block.was)))
-
-pub save_slots-requires-clause-within : goal.save_slots-requires-clause-within
-save_slots-requires-clause-within c = within _ _ _ (not_given _ c.test_block.ensures c.in_ok-test_block.was)
-
-pub save_slots-requires-clause-lawful_record : goal.save_slots-requires-clause-lawful_record
-save_slots-requires-clause-lawful_record c =
-    none (block_tests _ _ c.args.number) (not_given _ c.test_block.ensures c.in_ok-test_block.was) refusal.BadRecord
-
 pub returns : goal.returns
-unfolding save_block_refusal saved_block save_block_answer
-returns c =
-    record { answer = rw (pass (block_tests _ _ c.args.number) _ (not_given _ c.test_block.ensures c.in_ok-test_block.was)) c.save_slots.ensures }
+unfolding save_block_block
+returns c = record {
+  answer = c.from.ensures.0 ∙ ap answered c.made_block.ensures ∙ answered_by (save_block_refusal c.args.table.now c.args.versions c.args.number) (saved_block c.args.table.now c.args.number);
+  block = c.from.ensures.1 ∙ ap handed_out c.made_block.ensures ∙ handed_out_by (save_block_refusal c.args.table.now c.args.versions c.args.number) (saved_block c.args.table.now c.args.number);
+}

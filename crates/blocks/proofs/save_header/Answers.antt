@@ -1,50 +1,13 @@
--- `blocks::save_header`: the refusal of its tests or, past them, the block of a header whose slots, current and oldest fit their
--- words. Assumes nothing.
-use Rattle.std.proofs.Common.{ap, arith, rules, ℤ, nat_abs, T, w32, w64, Fits, SFits, Ok}
-use Rattle.std.proofs.lemmas.Result.{err_from_is_err_and}
-use Rattle.std.specs.Int.Signed.{non_neg}
-use Rattle.refusals.specs.declared.Refusal.TheVariants as refusal
-use Rattle.laws.specs.Bits.{plain}
-use Rattle.laws.specs.FirstLaws.{none}
-use Rattle.table.specs.SlotLaws.{lengths}
-use Rattle.blocks.specs.BlockTests.{idle_tests}
-use Rattle.blocks.specs.FrontLaws.{given, not_given}
-use Rattle.blocks.specs.HeaderLaws.{Natural, current_natural, oldest_natural}
-use Rattle.blocks.specs.SaveHeader.{save_header_refusal, saved_header}
-use Rattle.blocks.specs.ContractLaws.{header_not_saved, header_saved}
+-- `blocks::save_header`: the answer and the block are those of what `made_header` makes. Assumes nothing.
+use Rattle.std.proofs.Common.{ap, ◌∙◌}
+use Rattle.blocks.specs.SavedParts.{answered, handed_out}
+use Rattle.blocks.specs.SaveHeader.{save_header_refusal, saved_header, save_header_block}
+use Rattle.blocks.specs.ContractLaws.{answered_by, handed_out_by}
 use Rattle.blocks.proofs.save_header.Goals as goal
 
--- a version fits a word of 32 bits
-in_word : {z : ℤ} → Natural z → (T (non_neg z)) × Fits w32 (nat_abs z)
-in_word n = (n.positive, record { fits = omega (arith, n.last) })
-
-pub returns-in_err-test_idle : goal.returns-in_err-test_idle
-unfolding save_header_refusal
-returns-in_err-test_idle c =
-    let p = err_from_is_err_and c.from_residual.result c.from_residual.ensures.1 in
-    rw (p.1, p.2) (header_not_saved (given _ c.test_idle.ensures c.in_err-test_idle.was))
-
-pub overflow_cast-slots : goal.overflow_cast-slots
-overflow_cast-slots c =
-    let no = none (idle_tests c.args.table.now c.args.versions) (not_given _ c.test_idle.ensures c.in_ok-test_idle.was) in
-    record { fits = omega (arith, c.slots_of-slots.ensures, (lengths _ (no refusal.BadTable)).few) }
-
-pub overflow_cast-current : goal.overflow_cast-current
-overflow_cast-current c =
-    let no = none (idle_tests c.args.table.now c.args.versions) (not_given _ c.test_idle.ensures c.in_ok-test_idle.was) in
-    let current : SFits w64 c.args.versions.current = search rules in
-    rw (plain _ current) (in_word (current_natural _ (no refusal.BadRecord)))
-
-pub overflow_cast-oldest : goal.overflow_cast-oldest
-overflow_cast-oldest c =
-    let no = none (idle_tests c.args.table.now c.args.versions) (not_given _ c.test_idle.ensures c.in_ok-test_idle.was) in
-    let oldest : SFits w64 c.args.versions.oldest = search rules in
-    rw (plain _ oldest) (in_word (oldest_natural _ (no refusal.BadRecord)))
-
 pub returns : goal.returns
-unfolding save_header_refusal saved_header
-returns c =
-    let current : SFits w64 c.args.versions.current = search rules in
-    let oldest : SFits w64 c.args.versions.oldest = search rules in
-    header_saved (not_given _ c.test_idle.ensures c.in_ok-test_idle.was)
-    (ap Ok (rw (c.slots_of-slots.ensures, plain _ current, plain _ oldest) at c.header_block.ensures))
+unfolding save_header_block
+returns c = record {
+  answer = c.from.ensures.0 ∙ ap answered c.made_header.ensures ∙ answered_by (save_header_refusal c.args.table.now c.args.versions) (saved_header c.args.table.now c.args.versions);
+  block = c.from.ensures.1 ∙ ap handed_out c.made_header.ensures ∙ handed_out_by (save_header_refusal c.args.table.now c.args.versions) (saved_header c.args.table.now c.args.versions);
+}

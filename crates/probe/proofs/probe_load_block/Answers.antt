@@ -1,11 +1,16 @@
--- `probe::probe_load_block`: the table and the answer's numbers are those of the call. Assumes nothing.
-use Rattle.probe.specs.Probed.{out_after, table_after}
+-- `probe::probe_load_block`: the numbers are those of the call's answer, at the record that the words stand for; what it leaves is what the call leaves. Assumes nothing.
+use Rattle.std.proofs.Common.{ap, ◌∙◌}
+use Rattle.calls.specs.Numbers.{of_done}
+use Rattle.probe.specs.AnswerLaws.{done_padded}
+use Rattle.probe.specs.Probed.{padded, out_after, table_after}
 use Rattle.probe.proofs.probe_load_block.Goals as goal
 
 pub returns-clause-out_after : goal.returns-clause-out_after
 unfolding out_after
-returns-clause-out_after c = rw (c.put_loaded.ensures, c.load_block.ensures.answer, c.version_of.ensures)
+returns-clause-out_after c =
+    let answer = rw c.version_of.ensures at c.load_block.ensures.answer in
+    c.put_answer.ensures ∙ done_padded _ ∙ ap (λ r. padded (of_done r)) answer
 
 pub returns-clause-table_after : goal.returns-clause-table_after
 unfolding table_after
-returns-clause-table_after c = rw (c.load_block.ensures.words, c.version_of.ensures)
+returns-clause-table_after c = rw c.version_of.ensures at c.load_block.ensures.words

@@ -1,8 +1,13 @@
 -- `probe::probe_read_slot`: the numbers are those of the call's answer, at the record that the words stand for. Assumes nothing.
-use Rattle.std.proofs.Common.{rules}
-use Rattle.probe.specs.Probed.{out_after}
+use Rattle.std.proofs.Common.{rules, ◌≡◌, ap, ◌∙◌}
+use Rattle.reads.specs.ReadSlot.{read_slot_answer}
+use Rattle.calls.specs.Numbers.{of_seen}
+use Rattle.probe.specs.AnswerLaws.{seen_padded}
+use Rattle.probe.specs.Probed.{version_of, padded, out_after}
 use Rattle.probe.proofs.probe_read_slot.Goals as goal
 
 pub returns : goal.returns
 unfolding out_after
-returns c = search (rules, c.put_seen.ensures, c.read_slot.ensures.answer, c.version_of.ensures)
+returns c =
+    let answer : c.read_slot.result ≡ read_slot_answer c.args.table.now (version_of c.args.record_words.now) c.args.session c.args.slot = search (rules, c.read_slot.ensures.answer, c.version_of.ensures) in
+    c.put_answer.ensures ∙ seen_padded _ ∙ ap (λ r. padded (of_seen r)) answer

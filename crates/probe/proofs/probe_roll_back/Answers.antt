@@ -1,16 +1,20 @@
--- `probe::probe_roll_back`: the call does by value what roll back does of the table and of the record that the words stand for; the
--- words are then those of the record left, and the numbers those of its answer. Assumes nothing.
-use Rattle.probe.specs.Probed.{out_after, table_after, record_after}
+-- `probe::probe_roll_back`: the numbers are those of the call's answer, at the record that the words stand for; what it leaves is what the call leaves. Assumes nothing.
+use Rattle.std.proofs.Common.{ap, ◌∙◌}
+use Rattle.calls.specs.Numbers.{of_numbered}
+use Rattle.probe.specs.AnswerLaws.{numbered_padded}
+use Rattle.probe.specs.Probed.{padded, out_after, table_after, record_after}
 use Rattle.probe.proofs.probe_roll_back.Goals as goal
 
 pub returns-clause-out_after : goal.returns-clause-out_after
 unfolding out_after
-returns-clause-out_after c = rw (c.put_numbered.ensures, c.roll_back_by_value-turned.ensures.answer, c.version_of.ensures)
+returns-clause-out_after c =
+    let answer = rw c.version_of-versions.ensures at c.roll_back-answer.ensures.answer in
+    c.put_answer.ensures ∙ numbered_padded _ ∙ ap (λ r. padded (of_numbered r)) answer
 
 pub returns-clause-table_after : goal.returns-clause-table_after
 unfolding table_after
-returns-clause-table_after c = rw (c.roll_back_by_value-turned.ensures.words, c.version_of.ensures)
+returns-clause-table_after c = rw c.version_of-versions.ensures at c.roll_back-answer.ensures.words
 
 pub returns-clause-record_words_after : goal.returns-clause-record_words_after
 unfolding record_after
-returns-clause-record_words_after c = rw (c.keep_record.ensures, c.roll_back_by_value-turned.ensures.versions, c.version_of.ensures)
+returns-clause-record_words_after c = rw (c.keep_record.ensures, c.roll_back-answer.ensures.versions, c.version_of-versions.ensures)
