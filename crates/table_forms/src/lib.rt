@@ -24,14 +24,6 @@ pub enum Operation {
     Delete = 3,
 }
 
-pub const EMPTY: i64 = Operation::Empty as i64;
-
-pub const INSERT: i64 = Operation::Insert as i64;
-
-pub const UPDATE: i64 = Operation::Update as i64;
-
-pub const DELETE: i64 = Operation::Delete as i64;
-
 // A row of a decision table: a cell for each operation.
 #[derive(Clone, Copy)]
 pub struct Columns<C> {
