@@ -148,7 +148,6 @@ pub fn put_row(table: &mut [i64], versions: VersionRecord, given: Given) -> Resu
 }
 
 // A delete past 8: 6, 11, and the write by Table 4.
-#[tactic(auto, using(laws::specs::Bits::plain, std::proofs::lemmas::Bool::Decides::nat_tests, table_keys::specs::KeyLaws::absent_empty, table_forms::specs::FormedLaws::empty_formed, table_forms::specs::OperationLaws::dead_empty), unfolding(laws::specs::First::first))]
 pub fn delete_row(
     table: &mut [i64],
     versions: VersionRecord,
