@@ -8,6 +8,7 @@ ghost use Rattle.std.specs.Prelude.{◌≡◌, []};
 ghost use Rattle.calls.specs.Calls.{open_session, begin, commit, read_slot, read_key, roll_up, put, delete, roll_back, save_header, save_block, load_header, load_block};
 ghost use Rattle.probe.specs.Probed.{lent, out_after, table_after, record_after, block_after};
 
+mod lent;
 mod numbers;
 mod records;
 
@@ -23,10 +24,9 @@ pub fn probe_begin(record_words: &mut [i64; 4], out: &mut [i64; 8])
     ensures out_after { out.new ≡ out_after begin (lent [] record_words.old []) }
     ensures record_words_after { record_words.new ≡ record_after begin record_words.old (lent [] record_words.old []) }
 {
-    let mut versions = records::version_of(record_words);
-    let answer = reader::begin(&mut versions);
-    records::keep_record(record_words, versions);
-    numbers::put_answer(out, answer);
+    let turned = lent::begun(records::version_of(record_words));
+    records::keep_record(record_words, turned.versions);
+    numbers::put_answer(out, turned.answer);
 }
 
 // commit: the new current
@@ -34,10 +34,9 @@ pub fn probe_commit(record_words: &mut [i64; 4], out: &mut [i64; 8])
     ensures out_after { out.new ≡ out_after commit (lent [] record_words.old []) }
     ensures record_words_after { record_words.new ≡ record_after commit record_words.old (lent [] record_words.old []) }
 {
-    let mut versions = records::version_of(record_words);
-    let answer = reader::commit(&mut versions);
-    records::keep_record(record_words, versions);
-    numbers::put_answer(out, answer);
+    let turned = lent::committed(records::version_of(record_words));
+    records::keep_record(record_words, turned.versions);
+    numbers::put_answer(out, turned.answer);
 }
 
 // read a slot: mark 1 and the row, or zeros

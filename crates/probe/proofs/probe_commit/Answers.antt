@@ -8,9 +8,9 @@ use Rattle.probe.proofs.probe_commit.Goals as goal
 pub returns-clause-out_after : goal.returns-clause-out_after
 unfolding out_after
 returns-clause-out_after c =
-    let answer = rw c.version_of-versions.ensures at c.commit-answer.ensures.answer in
+    let answer = rw c.version_of.ensures at c.committed-turned.ensures.answer in
     c.put_answer.ensures ∙ numbered_padded _ ∙ ap (λ r. padded (of_numbered r)) answer
 
 pub returns-clause-record_words_after : goal.returns-clause-record_words_after
 unfolding record_after
-returns-clause-record_words_after c = rw (c.keep_record.ensures, c.commit-answer.ensures.versions, c.version_of-versions.ensures)
+returns-clause-record_words_after c = rw (c.keep_record.ensures, c.committed-turned.ensures.versions, c.version_of.ensures)
