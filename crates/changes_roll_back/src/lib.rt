@@ -6,6 +6,7 @@ ghost use Rattle.std.specs.Prelude.{◌≡◌, false, ◌<◌};
 ghost use Rattle.laws.specs.First.{unless};
 ghost use Rattle.versions.specs.Record.{bad_record};
 ghost use Rattle.table.specs.Slots.{bad_table, slots, slot_at, put_slot};
+ghost use Rattle.changes_roll_back.specs.Turns.{TurnsBeside};
 ghost use Rattle.changes_roll_back.specs.RollBack.{as_before, rolled_back, slots_back, roll_back_refusal, RollBackContract};
 
 use refusals::Refusal;
@@ -106,11 +107,24 @@ pub fn roll_back_by_value(table: &mut [i64], versions: VersionRecord) -> Turned
     }
 }
 
-// Roll back, on a lent record, thin over roll back by value.
+// A turn of a lent record beside a lent table, thin over one by value: the answer and the table are its own, and the record that it
+// leaves is stored where it stood.
+fn turn_beside<F: FnOnce(&mut [i64], VersionRecord) -> Turned>(
+    by_value: F,
+    table: &mut [i64],
+    versions: &mut VersionRecord,
+) -> Result<i64, Refusal>
+    requires { F.IsAlwaysCallable by_value }
+    ensures { TurnsBeside F.FnOnce by_value table.old versions.old result table.new versions.new }
+{
+    let turned = by_value(table, *versions);
+    *versions = turned.versions;
+    turned.answer
+}
+
+// Roll back, on a lent record.
 pub fn roll_back(table: &mut [i64], versions: &mut VersionRecord) -> Result<i64, Refusal>
     ensures { RollBackContract table.old versions.old result table.new versions.new }
 {
-    let turned = roll_back_by_value(table, *versions);
-    *versions = turned.versions;
-    turned.answer
+    turn_beside(roll_back_by_value, table, versions)
 }
