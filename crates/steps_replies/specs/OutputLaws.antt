@@ -1,8 +1,62 @@
--- Where there is room for the longest line, what waits then is what waited, and the line. Assumes nothing.
-use Rattle.std.specs.Prelude.{◌≡◌, List, ◌++◌, ℕ, ◌+◌, ◌≤◌, length}
-use Rattle.std.proofs.Common.{le-leb}
+-- Where there is room for the longest line, what waits then is what waited, and the line; without room it is what waited. Each
+-- answered line is at most as long as the longest: a word of at most 8 bytes, a newline, and a space and 20 bytes for each number
+-- of 64 bits; two numbers follow only the word row. Assumes nothing.
+use Rattle.std.specs.Prelude.{◌≡◌, List, [], ◌∷◌, ◌++◌, ℕ, ◌+◌, ◌≤◌, ◌<◌, ℤ, pos, negsuc, suc, Some, None, codes, length}
+use Rattle.std.proofs.Common.{arith, le-leb, length-append, SFits}
+use Rattle.std.proofs.lemmas.Bool.{lt-leb}
+use Rattle.std.proofs.lemmas.Fmt.{length-decimal-le}
+use Rattle.std.specs.Fmt.{signed_decimal}
+use Rattle.std.specs.Int.{w64}
+use Rattle.refusals.specs.declared.Refusal.{Refusal}
+use Rattle.refusals.specs.declared.Refusal.TheVariants.{BadTable}
+use Rattle.refusals.specs.Refusals.{number}
+use Rattle.reads.specs.declared.Row.{Row}
+use Rattle.steps_replies.specs.Replies.{line_of, version_line, slot_line, row_line, refused_line, bad_line}
 use Rattle.steps_replies.specs.Written.{longest_line, reply_bytes, written}
 
+-- ---- what waits
 pub up_to : (text line : List ℕ) → length text + longest_line ≤ reply_bytes → written text line ≡ text ++ line
 unfolding written
 up_to text line room = rw (le-leb (length text + longest_line) reply_bytes room)
+
+pub no_room : (text line : List ℕ) → reply_bytes < length text + longest_line → written text line ≡ text
+unfolding written
+no_room text line full = rw (lt-leb (length text + longest_line) reply_bytes full)
+
+-- ---- the length of a line, by its word and its numbers
+pub one_fitting : (word : List ℕ) (z : ℤ) → length word ≤ 8 → length (signed_decimal z) ≤ 20 → length (line_of word (z ∷ [])) ≤ longest_line
+one_fitting word z w d = simp (length-append) (omega (arith, w, d))
+
+pub two_fitting : (word : List ℕ) (one two : ℤ) → length word ≤ 3 → length (signed_decimal one) ≤ 20 → length (signed_decimal two) ≤ 20
+    → length (line_of word (one ∷ two ∷ [])) ≤ longest_line
+two_fitting word one two w d e = simp (length-append) (omega (arith, w, d, e))
+
+-- ---- of each answer
+natural_bytes : (n : ℕ) → n < 18446744073709551616 → length (signed_decimal (pos n)) ≤ 20
+natural_bytes n l = length-decimal-le 20 n (omega arith) (omega (arith, l)) (omega (arith, l))
+
+signed_bytes : (z : ℤ) → SFits w64 z → length (signed_decimal z) ≤ 20
+signed_bytes (pos n) f = natural_bytes n (omega (arith, f.sfits))
+signed_bytes (negsuc n) f = omega (arith, length-decimal-le 19 (suc n) (omega arith) (omega (arith, f.sfits)) (omega (arith, f.sfits)))
+
+few : (r : Refusal) → number r < 17
+few BadTable = omega arith
+few _ = omega arith
+
+pub version_fitting : (n : ℤ) → SFits w64 n → length (version_line n) ≤ longest_line
+version_fitting n f = one_fitting (codes "version") n (omega arith) (signed_bytes n f)
+
+pub slot_fitting : (k : ℕ) → k < 18446744073709551616 → length (slot_line k) ≤ longest_line
+slot_fitting k l = one_fitting (codes "slot") (pos k) (omega arith) (natural_bytes k l)
+
+pub row_fitting : (row : Row) → SFits w64 row.total1 → SFits w64 row.total2 → length (row_line (Some row)) ≤ longest_line
+row_fitting row f g = two_fitting (codes "row") row.total1 row.total2 (omega arith) (signed_bytes row.total1 f) (signed_bytes row.total2 g)
+
+pub none_fitting : length (row_line None) ≤ longest_line
+none_fitting = omega arith
+
+pub refused_fitting : (r : Refusal) → length (refused_line r) ≤ longest_line
+refused_fitting r = one_fitting (codes "refused") (pos (number r)) (omega arith) (natural_bytes (number r) (omega (arith, few r)))
+
+pub bad_fitting : length bad_line ≤ longest_line
+bad_fitting = omega arith

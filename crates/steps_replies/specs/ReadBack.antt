@@ -1,13 +1,18 @@
 -- A number that is written is read back: for every z of 64 signed bits its decimal digits, with a minus if it is below 0, are the
 -- number z. Assumes nothing.
-use Rattle.std.specs.Prelude.{◌≡◌, refl, true, ℕ, suc, ◌<◌, ◌^◌, ℤ, pos, negsuc, get_or, Some}
+use Rattle.std.specs.Prelude.{◌≡◌, refl, true, List, [], ◌∷◌, ◌++◌, ℕ, suc, ◌+◌, ◌*◌, ◌-◌, ◌<◌, ◌^◌, ℤ, pos, negsuc, get_or, Some}
 use Rattle.std.proofs.Common.{ap, ◌∙◌, arith, rules, lt-ltb, le-leb, SFits}
 use Rattle.std.proofs.lemmas.Fmt.{digits_decimal, digits_value-decimal, decimal_nonempty, length-decimal-le, decimal_is_IsNumeral}
+use Rattle.std.proofs.lemmas.List.Sums.{fold-append}
 use Rattle.std.proofs.lemmas.Str.Parse.{IsNumeralModel, numerals_by_fold, digit_at}
 use Rattle.std.specs.Fmt.{decimal, signed_decimal}
 use Rattle.std.specs.Int.{w64}
-use Rattle.steps_commands.specs.Numerals.{minus_byte, signed_limit, all_digits, decimal_from, digits_of, number_of}
+use Rattle.steps_commands.specs.Numerals.{minus_byte, zero_byte, signed_limit, all_digits, decimal_from, digits_of, number_of}
 use Rattle.steps_commands.specs.NumeralLaws.{digits_make, minus_field, plain_field}
+
+-- a digit more at the end: ten times the number, and the digit
+pub last_number : (n : ℕ) (bs : List ℕ) (b : ℕ) → decimal_from n (bs ++ (b ∷ [])) ≡ decimal_from n bs * 10 + (b - zero_byte)
+last_number n bs b = fold-append _ n bs (b ∷ [])
 
 own : IsNumeralModel (λ bs. all_digits bs ≡ true) (decimal_from 0)
 own = numerals_by_fold _ (search rules) decimal_from (search rules)

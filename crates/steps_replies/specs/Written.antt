@@ -1,5 +1,6 @@
--- A line written behind those that wait, where there is room for the longest. Assumes nothing.
-use Rattle.std.specs.Prelude.{Bool, cond, List, ◌++◌, ℕ, ◌+◌, leb, length}
+-- A line written behind those that wait, where there is room for the longest; what waits then is one text. Assumes nothing.
+use Rattle.std.specs.Prelude.{◌≡◌, Bool, cond, List, ◌++◌, ℕ, ◌+◌, leb, length}
+use Rattle.std.proofs.Common.{sym, ◌∙◌}
 
 -- row, and two numbers of 20 bytes, a space before each, and a newline
 abbrev pub longest_line : ℕ
@@ -15,3 +16,7 @@ has_room text = leb (length text + longest_line) reply_bytes
 -- without room nothing is written
 unfoldable pub written : List ℕ → List ℕ → List ℕ
 written text line = cond (has_room text) (text ++ line) text
+
+-- the contract is an equation with it, so it allows one outcome
+pub one_outcome : (text line : List ℕ) {out out' : List ℕ} → out ≡ written text line → out' ≡ written text line → out ≡ out'
+one_outcome text line x y = x ∙ sym y
