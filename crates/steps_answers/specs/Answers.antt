@@ -50,8 +50,8 @@ words_after command t v = (left_by command (lent t v)).words
 abbrev pub record_after : Option Command → List ℤ → VersionRecord → VersionRecord
 record_after command t v = (left_by command (lent t v)).versions
 
--- a line answered: what it asks is done, and the reply is written behind the lines that wait
-pub record Answered (t : List ℤ) (v : VersionRecord) (line text : List ℕ) (t' : List ℤ) (v' : VersionRecord) (text' : List ℕ) : Type 0 where
+-- a line answered: what it asks is done, and the reply is written behind the lines that wait in a text of so many bytes
+pub record Answered (bytes : ℕ) (t : List ℤ) (v : VersionRecord) (line text : List ℕ) (t' : List ℤ) (v' : VersionRecord) (text' : List ℕ) : Type 0 where
   pub words : t' ≡ words_after (asked line) t v
   pub versions : v' ≡ record_after (asked line) t v
-  pub replied : text' ≡ written text (reply (asked line) t v)
+  pub replied : text' ≡ written bytes text (reply (asked line) t v)

@@ -4,13 +4,19 @@
 
 ghost use Rattle.steps_answers.specs.Answers.{Answered};
 
+use arrayvec::ArrayString;
 use reader::VersionRecord;
 use steps_commands::Command;
-use steps_replies::{BadLine, Replies, write_line};
+use steps_replies::{BadLine, write_line};
 
 // A line answered.
-pub fn answer(table: &mut [i64], versions: &mut VersionRecord, line: &[u8], replies: &mut Replies)
-    ensures { Answered table.old versions.old line.now replies.old.bytes table.new versions.new replies.new.bytes }
+pub fn answer<const BYTES: usize>(
+    table: &mut [i64],
+    versions: &mut VersionRecord,
+    line: &[u8],
+    replies: &mut ArrayString<BYTES>,
+)
+    ensures { Answered BYTES table.old versions.old line.now replies.old.bytes table.new versions.new replies.new.bytes }
 {
     match steps_commands::read_command(line) {
         Some(Command::Begin) => write_line(replies, reader::begin(versions)),

@@ -9,6 +9,7 @@
 use std::io;
 use std::io::{Read, Write};
 use steps_lines::Progress;
+use steps_replies::REPLY_BYTES;
 
 // 8 slots of 8 words.
 const TABLE_WORDS: usize = 64;
@@ -20,7 +21,7 @@ const INPUT_BYTES: usize = 65536;
 #[derive(Drop)]
 struct Steps<W> {
     sink: W,
-    progress: Progress<TABLE_WORDS>,
+    progress: Progress<TABLE_WORDS, REPLY_BYTES>,
 }
 
 impl<W: Write> Steps<W> {

@@ -9,7 +9,7 @@ use Rattle.steps_lines.specs.LineSessions.{LineSession}
 abbrev pub line_bytes : ℕ
 line_bytes = longest_command + 1
 
-pub record StandsFor {size : ℕ} (s : LineSession) (p : Progress size) : Type 0 where
+pub record StandsFor {size most : ℕ} (s : LineSession) (p : Progress size most) : Type 0 where
   pub words : p.table ≡ s.words
   pub versions : p.versions ≡ s.versions
   pub line : p.line.items ≡ take line_bytes s.line

@@ -10,7 +10,7 @@ use Rattle.arrayvec.specs.ArrayString.{ArrayString}
 use Rattle.versions.specs.declared.VersionRecord.{VersionRecord}
 use Rattle.steps_commands.specs.Commands.{asked}
 use Rattle.steps_commands.specs.LongLineLaws as long
-use Rattle.steps_replies.specs.Written.{longest_line, reply_bytes}
+use Rattle.steps_replies.specs.Written.{longest_line}
 use Rattle.steps_replies.specs.OutputLaws.{up_to}
 use Rattle.steps_answers.specs.Answers.{Answered}
 use Rattle.steps_lines.specs.declared.Progress.{Progress}
@@ -26,10 +26,10 @@ by_length line kept e short long =
     (λ l. long (ap length e ∙ length-take-le line_bytes line (omega arith)) l)
     (λ l. short (e ∙ take_all line_bytes line l) l)
 
-module _ {size : ℕ} {s : LineSession} {p : Progress size} (w : StandsFor s p) where
+module _ {size most : ℕ} {s : LineSession} {p : Progress size most} (w : StandsFor s p) where
   -- ---- a byte of a line
   pub stands_longer : (b : ℕ) (line : ArrayVec ℕ) → length p.line.items < line_bytes → line.items ≡ p.line.items ++ (b ∷ [])
-      → StandsFor {size = size} (longer s b) (record { table = p.table; versions = p.versions; line = line; replies = p.replies })
+      → StandsFor {size = size} {most = most} (longer s b) (record { table = p.table; versions = p.versions; line = line; replies = p.replies })
   stands_longer b line l e = record {
     words = w.words;
     versions = w.versions;
@@ -51,9 +51,9 @@ module _ {size : ℕ} {s : LineSession} {p : Progress size} (w : StandsFor s p) 
   }
 
   -- ---- a line that ends
-  pub stands_ended : {t : List ℤ} {v : VersionRecord} {line : ArrayVec ℕ} {replies : ArrayString} → length p.replies.bytes + longest_line ≤ reply_bytes
-      → Answered p.table p.versions p.line.items p.replies.bytes t v replies.bytes → line.items ≡ []
-      → StandsFor {size = size} (ended s) (record { table = t; versions = v; line = line; replies = replies })
+  pub stands_ended : {t : List ℤ} {v : VersionRecord} {line : ArrayVec ℕ} {replies : ArrayString} → length p.replies.bytes + longest_line ≤ most
+      → Answered most p.table p.versions p.line.items p.replies.bytes t v replies.bytes → line.items ≡ []
+      → StandsFor {size = size} {most = most} (ended s) (record { table = t; versions = v; line = line; replies = replies })
   unfolding ended
   stands_ended room a empty =
       let tells : asked p.line.items ≡ asked s.line = ap asked w.line ∙ long.kept s.line in
@@ -61,7 +61,7 @@ module _ {size : ℕ} {s : LineSession} {p : Progress size} (w : StandsFor s p) 
         words = a.words ∙ rw (tells, w.words, w.versions) refl;
         versions = a.versions ∙ rw (tells, w.words, w.versions) refl;
         line = empty;
-        output = a.replied ∙ up_to _ _ room ∙ rw (tells, w.output, w.words, w.versions) refl;
+        output = a.replied ∙ up_to _ _ _ room ∙ rw (tells, w.output, w.words, w.versions) refl;
       }
 
   -- ---- the last line: something is kept of it exactly if it has a byte

@@ -3,27 +3,26 @@
 #![tactic(auto)]
 
 ghost use Rattle.std.specs.Prelude.{◌≡◌, ◌+◌, ◌≤◌, ◌<◌, length, take};
-ghost use Rattle.steps_replies.specs.Written.{longest_line, reply_bytes};
+ghost use Rattle.steps_replies.specs.Written.{longest_line};
 ghost use Rattle.steps_lines.specs.LineSessions.{LineSession, fresh_session, ended, finished, after_byte, after_bytes};
 ghost use Rattle.steps_lines.specs.Standing.{StandsFor};
 
 use arrayvec::{ArrayString, ArrayVec};
 use reader::VersionRecord;
-use steps_replies::Replies;
 
 // A byte more than the longest command: of a longer line these show that it is bad.
 pub const LINE_BYTES: usize = steps_commands::LONGEST_COMMAND + 1;
 
 // What stands between two bytes: the table, the record, the line as far as it is kept, and the replies that wait.
 #[derive(Drop)]
-pub struct Progress<const WORDS: usize> {
+pub struct Progress<const WORDS: usize, const BYTES: usize> {
     pub table: [i64; WORDS],
     pub versions: VersionRecord,
     pub line: ArrayVec<u8, LINE_BYTES>,
-    pub replies: Replies,
+    pub replies: ArrayString<BYTES>,
 }
 
-impl<const WORDS: usize> Progress<WORDS> {
+impl<const WORDS: usize, const BYTES: usize> Progress<WORDS, BYTES> {
     // Before the first byte.
     pub fn fresh(table: [i64; WORDS]) -> Self
         ensures { StandsFor (fresh_session table.entry) result }
@@ -38,7 +37,7 @@ impl<const WORDS: usize> Progress<WORDS> {
 
     // The line is answered, and the next begins.
     fn end_line(&mut self)
-        requires { length self.old.replies.bytes + longest_line ≤ reply_bytes }
+        requires { length self.old.replies.bytes + longest_line ≤ BYTES }
         ensures { (s : LineSession) → StandsFor s self.old → StandsFor (ended s) self.new }
     {
         steps_answers::answer(
@@ -52,7 +51,7 @@ impl<const WORDS: usize> Progress<WORDS> {
 
     // The last line needs no newline.
     pub fn end_last(&mut self)
-        requires { length self.old.replies.bytes + longest_line ≤ reply_bytes }
+        requires { length self.old.replies.bytes + longest_line ≤ BYTES }
         ensures { (s : LineSession) → StandsFor s self.old → StandsFor (finished s) self.new }
     {
         if !self.line.is_empty() {
@@ -62,7 +61,7 @@ impl<const WORDS: usize> Progress<WORDS> {
 
     // A newline ends the line, and any other byte belongs to it, which is kept where there is room for it.
     fn take_byte(&mut self, byte: u8)
-        requires { length self.old.replies.bytes + longest_line ≤ reply_bytes }
+        requires { length self.old.replies.bytes + longest_line ≤ BYTES }
         ensures { (s : LineSession) → StandsFor s self.old → StandsFor (after_byte s byte) self.new }
     {
         if byte == steps_replies::NEWLINE {
@@ -75,7 +74,7 @@ impl<const WORDS: usize> Progress<WORDS> {
     // Bytes in turn, as long as the longest line has room behind the replies that wait; how many were taken.
     #[tactic(auto, using(std::proofs::lemmas::Grind::common_steps, crate::specs::LineSessionLaws::no_bytes, crate::specs::LineSessionLaws::and_last))]
     pub fn take_bytes(&mut self, input: &[u8]) -> usize
-        requires { length self.old.replies.bytes + longest_line ≤ reply_bytes }
+        requires { length self.old.replies.bytes + longest_line ≤ BYTES }
         ensures within_input { result ≤ length input.now }
         ensures some_taken { 0 < length input.now → 0 < result }
         ensures stands_for { (s : LineSession) → StandsFor s self.old → StandsFor (after_bytes s (take result input.now)) self.new }

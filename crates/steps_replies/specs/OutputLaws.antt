@@ -15,13 +15,21 @@ use Rattle.steps_replies.specs.Replies.{line_of, version_line, slot_line, row_li
 use Rattle.steps_replies.specs.Written.{longest_line, reply_bytes, written}
 
 -- ---- what waits
-pub up_to : (text line : List ℕ) → length text + longest_line ≤ reply_bytes → written text line ≡ text ++ line
+pub up_to : (bytes : ℕ) (text line : List ℕ) → length text + longest_line ≤ bytes → written bytes text line ≡ text ++ line
 unfolding written
-up_to text line room = rw (le-leb (length text + longest_line) reply_bytes room)
+up_to bytes text line room = rw (le-leb (length text + longest_line) bytes room)
 
-pub no_room : (text line : List ℕ) → reply_bytes < length text + longest_line → written text line ≡ text
+pub no_room : (bytes : ℕ) (text line : List ℕ) → bytes < length text + longest_line → written bytes text line ≡ text
 unfolding written
-no_room text line full = rw (lt-leb (length text + longest_line) reply_bytes full)
+no_room bytes text line full = rw (lt-leb (length text + longest_line) bytes full)
+
+-- nothing is ever written into a text that is smaller than the longest line
+pub never_room : (bytes : ℕ) (text line : List ℕ) → bytes < longest_line → written bytes text line ≡ text
+never_room bytes text line small = no_room bytes text line (omega (arith, small))
+
+-- the text of the program has room before the first line
+pub room_at_first : longest_line ≤ reply_bytes
+room_at_first = omega arith
 
 -- ---- the length of a line, by its word and its numbers
 pub one_fitting : (word : List ℕ) (z : ℤ) → length word ≤ 8 → length (signed_decimal z) ≤ 20 → length (line_of word (z ∷ [])) ≤ longest_line
@@ -55,8 +63,12 @@ row_fitting row f g = two_fitting (codes "row") row.total1 row.total2 (omega ari
 pub none_fitting : length (row_line None) ≤ longest_line
 none_fitting = omega arith
 
-pub refused_fitting : (r : Refusal) → length (refused_line r) ≤ longest_line
-refused_fitting r = one_fitting (codes "refused") (pos (number r)) (omega arith) (natural_bytes (number r) (omega (arith, few r)))
+-- a refusal's number is one of these
+pub refused_fitting : (n : ℕ) → n < 18446744073709551616 → length (line_of (codes "refused") (pos n ∷ [])) ≤ longest_line
+refused_fitting n l = one_fitting (codes "refused") (pos n) (omega arith) (natural_bytes n l)
+
+pub refusal_fitting : (r : Refusal) → length (refused_line r) ≤ longest_line
+refusal_fitting r = refused_fitting (number r) (omega (arith, few r))
 
 pub bad_fitting : length bad_line ≤ longest_line
 bad_fitting = omega arith

@@ -1,4 +1,5 @@
--- A line written behind those that wait, where there is room for the longest; what waits then is one text. Assumes nothing.
+-- A line written behind those that wait in a text of any size, where there is room for the longest; what waits then is one text.
+-- Assumes nothing.
 use Rattle.std.specs.Prelude.{◌≡◌, Bool, cond, List, ◌++◌, ℕ, ◌+◌, leb, length}
 use Rattle.std.proofs.Common.{sym, ◌∙◌}
 
@@ -6,17 +7,18 @@ use Rattle.std.proofs.Common.{sym, ◌∙◌}
 abbrev pub longest_line : ℕ
 longest_line = 46
 
--- so many bytes of lines wait at most
+-- so many bytes of lines wait at most in the program
 abbrev pub reply_bytes : ℕ
 reply_bytes = 65536
 
-abbrev pub has_room : List ℕ → Bool
-has_room text = leb (length text + longest_line) reply_bytes
+-- a text of so many bytes has room
+abbrev pub has_room : ℕ → List ℕ → Bool
+has_room bytes text = leb (length text + longest_line) bytes
 
 -- without room nothing is written
-unfoldable pub written : List ℕ → List ℕ → List ℕ
-written text line = cond (has_room text) (text ++ line) text
+unfoldable pub written : ℕ → List ℕ → List ℕ → List ℕ
+written bytes text line = cond (has_room bytes text) (text ++ line) text
 
 -- the contract is an equation with it, so it allows one outcome
-pub one_outcome : (text line : List ℕ) {out out' : List ℕ} → out ≡ written text line → out' ≡ written text line → out ≡ out'
-one_outcome text line x y = x ∙ sym y
+pub one_outcome : (bytes : ℕ) (text line : List ℕ) {out out' : List ℕ} → out ≡ written bytes text line → out' ≡ written bytes text line → out ≡ out'
+one_outcome bytes text line x y = x ∙ sym y
