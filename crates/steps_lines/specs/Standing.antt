@@ -9,8 +9,8 @@ use Rattle.steps_lines.specs.LineSessions.{LineSession}
 abbrev pub line_bytes : ℕ
 line_bytes = longest_command + 1
 
-pub record StandsFor {size most : ℕ} (s : LineSession) (p : Progress size most) : Type 0 where
-  pub words : p.table ≡ s.words
+pub record StandsFor {most : ℕ} (s : LineSession) (p : Progress most) : Type 0 where
+  pub words : p.table.now ≡ s.words
   pub versions : p.versions ≡ s.versions
   pub line : p.line.items ≡ take line_bytes s.line
   pub output : p.replies.bytes ≡ s.output

@@ -13,19 +13,21 @@ use reader::VersionRecord;
 // A byte more than the longest command: of a longer line these show that it is bad.
 pub const LINE_BYTES: usize = steps_commands::LONGEST_COMMAND + 1;
 
-// What stands between two bytes: the table, the record, the line as far as it is kept, and the replies that wait.
+// What stands between two bytes: the lent table, of any length, the record, the line as far as it is kept, and the replies that
+// wait, in a text of any size.
 #[derive(Drop)]
-pub struct Progress<const WORDS: usize, const BYTES: usize> {
-    pub table: [i64; WORDS],
+pub struct Progress<'a, const BYTES: usize> {
+    pub table: &'a mut [i64],
     pub versions: VersionRecord,
     pub line: ArrayVec<u8, LINE_BYTES>,
     pub replies: ArrayString<BYTES>,
 }
 
-impl<const WORDS: usize, const BYTES: usize> Progress<WORDS, BYTES> {
+impl<'a, const BYTES: usize> Progress<'a, BYTES> {
     // Before the first byte.
-    pub fn fresh(table: [i64; WORDS]) -> Self
-        ensures { StandsFor (fresh_session table.entry) result }
+    pub fn fresh(table: &'a mut [i64]) -> Self
+        ensures same_table { result.table.ghost_name ≡ table.entry.ghost_name }
+        ensures stands_for { StandsFor (fresh_session table.old) result }
     {
         Progress {
             table,
@@ -38,10 +40,11 @@ impl<const WORDS: usize, const BYTES: usize> Progress<WORDS, BYTES> {
     // The line is answered, and the next begins.
     fn end_line(&mut self)
         requires { length self.old.replies.bytes + longest_line ≤ BYTES }
-        ensures { (s : LineSession) → StandsFor s self.old → StandsFor (ended s) self.new }
+        ensures same_table { self.new.table.ghost_name ≡ self.old.table.ghost_name }
+        ensures stands_for { (s : LineSession) → StandsFor s self.old → StandsFor (ended s) self.new }
     {
         steps_answers::answer(
-            &mut self.table,
+            self.table,
             &mut self.versions,
             &self.line,
             &mut self.replies,
@@ -52,7 +55,8 @@ impl<const WORDS: usize, const BYTES: usize> Progress<WORDS, BYTES> {
     // The last line needs no newline.
     pub fn end_last(&mut self)
         requires { length self.old.replies.bytes + longest_line ≤ BYTES }
-        ensures { (s : LineSession) → StandsFor s self.old → StandsFor (finished s) self.new }
+        ensures same_table { self.new.table.ghost_name ≡ self.old.table.ghost_name }
+        ensures stands_for { (s : LineSession) → StandsFor s self.old → StandsFor (finished s) self.new }
     {
         if !self.line.is_empty() {
             self.end_line();
@@ -62,7 +66,8 @@ impl<const WORDS: usize, const BYTES: usize> Progress<WORDS, BYTES> {
     // A newline ends the line, and any other byte belongs to it, which is kept where there is room for it.
     fn take_byte(&mut self, byte: u8)
         requires { length self.old.replies.bytes + longest_line ≤ BYTES }
-        ensures { (s : LineSession) → StandsFor s self.old → StandsFor (after_byte s byte) self.new }
+        ensures same_table { self.new.table.ghost_name ≡ self.old.table.ghost_name }
+        ensures stands_for { (s : LineSession) → StandsFor s self.old → StandsFor (after_byte s byte) self.new }
     {
         if byte == steps_replies::NEWLINE {
             self.end_line();
@@ -75,6 +80,7 @@ impl<const WORDS: usize, const BYTES: usize> Progress<WORDS, BYTES> {
     #[tactic(auto, using(std::proofs::lemmas::Grind::common_steps, crate::specs::LineSessionLaws::no_bytes, crate::specs::LineSessionLaws::and_last))]
     pub fn take_bytes(&mut self, input: &[u8]) -> usize
         requires { length self.old.replies.bytes + longest_line ≤ BYTES }
+        ensures same_table { self.new.table.ghost_name ≡ self.old.table.ghost_name }
         ensures within_input { result ≤ length input.now }
         ensures some_taken { 0 < length input.now → 0 < result }
         ensures stands_for { (s : LineSession) → StandsFor s self.old → StandsFor (after_bytes s (take result input.now)) self.new }
