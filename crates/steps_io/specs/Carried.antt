@@ -6,18 +6,18 @@ use Rattle.steps_lines.specs.declared.Progress.{Progress}
 use Rattle.steps_lines.specs.LineSessions.{LineSession, fresh_session, written_out, after_bytes, finished}
 use Rattle.steps_lines.specs.Standing.{StandsFor}
 
-module _ {size most : ℕ} (p : Progress size most) where
+module _ {most : ℕ} (p : Progress most) where
   -- these bytes were handed on
-  pub record Carried (bytes : List ℕ) (p' : Progress size most) : Type 0 where
+  pub record Carried (bytes : List ℕ) (p' : Progress most) : Type 0 where
     pub stands : (s : LineSession) → StandsFor s p → StandsFor (written_out (after_bytes s bytes)) p'
 
   -- the front of input was handed on, where a write failed
-  pub record CarriedFront (input : List ℕ) (p' : Progress size most) : Type 0 where
+  pub record CarriedFront (input : List ℕ) (p' : Progress most) : Type 0 where
     pub count : ℕ
     pub carried : Carried (take count input) p'
 
   -- some bytes were handed on, read after read
-  pub record CarriedSome (p' : Progress size most) : Type 0 where
+  pub record CarriedSome (p' : Progress most) : Type 0 where
     pub bytes : List ℕ
     pub carried : Carried bytes p'
 

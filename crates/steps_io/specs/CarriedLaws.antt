@@ -11,7 +11,7 @@ use Rattle.steps_lines.specs.LineSessionLaws.{no_bytes, written_between, written
 use Rattle.steps_lines.specs.Standing.{StandsFor}
 use Rattle.steps_io.specs.Carried.{Carried, CarriedFront, CarriedSome, CarriedAll}
 
-module _ {size most : ℕ} {p : Progress size most} where
+module _ {most : ℕ} {p : Progress most} where
   -- the replies are written, and none waits
   pub replies_written : (replies : ArrayString) → replies.bytes ≡ []
       → Carried p [] (record { table = p.table; versions = p.versions; line = p.line; replies = replies })
@@ -22,7 +22,7 @@ module _ {size most : ℕ} {p : Progress size most} where
   pub carried_none : p.replies.bytes ≡ [] → Carried p [] p
   carried_none = replies_written p.replies
 
-  module _ {p' p'' : Progress size most} where
+  module _ {p' p'' : Progress most} where
     -- bytes are taken, and their replies written
     pub taken_and_written : (bytes : List ℕ) → ((s : LineSession) → StandsFor s p → StandsFor (after_bytes s bytes) p') → Carried p' [] p''
         → Carried p bytes p''
@@ -36,7 +36,7 @@ module _ {size most : ℕ} {p : Progress size most} where
     some_on bytes a b = record { bytes = a.bytes ++ bytes; carried = carried_on a.bytes bytes a.carried b }
 
   -- a front of some input, where a write failed
-  pub front_of : {p' : Progress size most} {input : List ℕ} (front rest : List ℕ) → input ≡ front ++ rest → Carried p front p' → CarriedFront p input p'
+  pub front_of : {p' : Progress most} {input : List ℕ} (front rest : List ℕ) → input ≡ front ++ rest → Carried p front p' → CarriedFront p input p'
   front_of front rest e a = record { count = length front; carried = rw (e, take-append_seam front rest) a }
 
 -- a part of what is left goes over to what was handed on
@@ -45,9 +45,9 @@ part_over input front rest count e =
     e ∙ ap (λ l. front ++ l) (sym (take-append-drop count rest)) ∙ sym (append_assoc front (take count rest) (drop count rest))
 
 -- at the end it is as if the replies had not been written out
-module _ {size most : ℕ} {t : List ℤ} {p p' : Progress size most} (w : StandsFor (fresh_session t) p) (a : CarriedSome p p') where
-  pub all_carried : {last end : Progress size most} → ((s : LineSession) → StandsFor s p' → StandsFor (finished s) last) → Carried last [] end
-      → CarriedAll t end.table
+module _ {most : ℕ} {t : List ℤ} {p p' : Progress most} (w : StandsFor (fresh_session t) p) (a : CarriedSome p p') where
+  pub all_carried : {last end : Progress most} → ((s : LineSession) → StandsFor s p' → StandsFor (finished s) last) → Carried last [] end
+      → CarriedAll t end.table.now
   all_carried finish out =
       let s = after_bytes (fresh_session t) a.bytes in
       record {
@@ -57,5 +57,5 @@ module _ {size most : ℕ} {t : List ℤ} {p p' : Progress size most} (w : Stand
       }
 
   -- or a write failed before
-  pub cut_off : CarriedAll t p'.table
+  pub cut_off : CarriedAll t p'.table.now
   cut_off = record { bytes = a.bytes; taken = false; words = (a.carried.stands _ w).words }

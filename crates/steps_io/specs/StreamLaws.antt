@@ -12,18 +12,18 @@ use Rattle.steps_io.specs.Carried.{Carried}
 use Rattle.steps_io.specs.CarriedLaws.{carried_none, carried_on, some_on, all_carried, cut_off}
 use Rattle.steps_io.specs.Streams.{Written, Streamed, AnsweredAll}
 
-module _ {size most : ℕ} {p : Progress size most} where
+module _ {most : ℕ} {p : Progress most} where
   -- nothing
   pub none_written : (sink : Option (List ℕ)) → p.replies.bytes ≡ [] → Written p sink [] sink
   none_written sink e = record { output = λ s w. rw (no_bytes s, ← w.output, e) (Appends-nil sink) }
 
   -- what waits then
-  pub replies_out : {p' : Progress size most} {sink sink' : Option (List ℕ)} {bytes : List ℕ} → ((s : LineSession) → StandsFor s p → StandsFor (after_bytes s bytes) p')
+  pub replies_out : {p' : Progress most} {sink sink' : Option (List ℕ)} {bytes : List ℕ} → ((s : LineSession) → StandsFor s p → StandsFor (after_bytes s bytes) p')
       → Appends sink sink' p'.replies.bytes → Written p sink bytes sink'
   replies_out {sink = sink} {sink' = sink'} taken out = record { output = λ s w. subst (Appends sink sink') (taken s w).output out }
 
   -- and what is answered to more
-  pub written_on : {p' : Progress size most} {sink sink' sink'' : Option (List ℕ)} (front rest : List ℕ)
+  pub written_on : {p' : Progress most} {sink sink' sink'' : Option (List ℕ)} (front rest : List ℕ)
       → Carried p front p' → Written p sink front sink' → Written p' sink' rest sink'' → Written p sink (front ++ rest) sink''
   written_on {sink = sink} {sink' = sink'} {sink'' = sink''} front rest a b more = record {
     output = λ s w.
@@ -36,7 +36,7 @@ module _ {size most : ℕ} {p : Progress size most} where
   pub none_streamed : (source sink : Option (List ℕ)) → p.replies.bytes ≡ [] → Streamed p source sink p source sink
   none_streamed source sink e = record { bytes = []; carried = carried_none e; read = Consumes-nil source; written = none_written sink e }
 
-  pub streamed_on : {p' p'' : Progress size most} {source source' source'' sink sink' sink'' : Option (List ℕ)} {bytes : List ℕ} → Streamed p source sink p' source' sink'
+  pub streamed_on : {p' p'' : Progress most} {source source' source'' sink sink' sink'' : Option (List ℕ)} {bytes : List ℕ} → Streamed p source sink p' source' sink'
       → Carried p' bytes p'' → Written p' sink' bytes sink'' → Consumes source' source'' bytes → Streamed p source sink p'' source'' sink''
   streamed_on {source = source} {source' = source'} {source'' = source''} {bytes = bytes} a c more read = record {
     bytes = a.bytes ++ bytes;
@@ -46,9 +46,9 @@ module _ {size most : ℕ} {p : Progress size most} where
   }
 
 -- the last line
-pub all_answered : {size most : ℕ} {t : List ℤ} {p p' last end : Progress size most} {source source' sink sink' sink'' : Option (List ℕ)} → StandsFor (fresh_session t) p
+pub all_answered : {most : ℕ} {t : List ℤ} {p p' last end : Progress most} {source source' sink sink' sink'' : Option (List ℕ)} → StandsFor (fresh_session t) p
     → Streamed p source sink p' source' sink' → ((s : LineSession) → StandsFor s p' → StandsFor (finished s) last) → Carried last [] end
-    → Appends sink' sink'' last.replies.bytes → AnsweredAll t source sink end.table source' sink''
+    → Appends sink' sink'' last.replies.bytes → AnsweredAll t source sink end.table.now source' sink''
 all_answered {t} {source = source} {sink = sink} {sink' = sink'} {sink'' = sink''} w a finish out appended =
     let s = after_bytes (fresh_session t) a.bytes in
     let stood = finish _ (a.carried.stands _ w) in

@@ -8,11 +8,11 @@ use Rattle.steps_lines.specs.Standing.{StandsFor}
 use Rattle.steps_io.specs.Carried.{Carried}
 
 -- what was answered to some bytes was written
-pub record Written {size most : ℕ} (p : Progress size most) (sink : Option (List ℕ)) (bytes : List ℕ) (sink' : Option (List ℕ)) : Type 0 where
+pub record Written {most : ℕ} (p : Progress most) (sink : Option (List ℕ)) (bytes : List ℕ) (sink' : Option (List ℕ)) : Type 0 where
   pub output : (s : LineSession) → StandsFor s p → Appends sink sink' (after_bytes s bytes).output
 
 -- what was read was handed on, and answered
-pub record Streamed {size most : ℕ} (p : Progress size most) (source sink : Option (List ℕ)) (p' : Progress size most) (source' sink' : Option (List ℕ)) : Type 0 where
+pub record Streamed {most : ℕ} (p : Progress most) (source sink : Option (List ℕ)) (p' : Progress most) (source' sink' : Option (List ℕ)) : Type 0 where
   pub bytes : List ℕ
   pub carried : Carried p bytes p'
   pub read : Consumes source source' bytes

@@ -19,12 +19,12 @@ const INPUT_BYTES: usize = 65536;
 
 // Where replies are written, and what stands between two bytes.
 #[derive(Drop)]
-struct Steps<W> {
+struct Steps<'a, W> {
     sink: W,
-    progress: Progress<TABLE_WORDS, REPLY_BYTES>,
+    progress: Progress<'a, REPLY_BYTES>,
 }
 
-impl<W: Write> Steps<W> {
+impl<W: Write> Steps<'_, W> {
     ghost use Rattle.std.specs.Prelude.{◌≡◌, [], List, ℤ, take, IfOk, OnOk, OnErr};
     ghost use Rattle.std.specs.Io.KnownBytes.{Appends, Consumes};
     ghost use Rattle.steps_lines.specs.LineSessions.{fresh_session};
@@ -35,6 +35,7 @@ impl<W: Write> Steps<W> {
     // The replies that wait are written, and none waits.
     #[tactic(auto, using(crate::specs::CarriedLaws::replies_written))]
     fn write_replies(&mut self) -> io::Result<()>
+        ensures same_table { self.new.progress.table.ghost_name ≡ self.old.progress.table.ghost_name }
         ensures ready { self.new.progress.replies.bytes ≡ [] }
         ensures carried { Carried self.old.progress [] self.new.progress }
         ensures written { OnOk result (Appends (W.contents self.old.sink) (W.contents self.new.sink) self.old.progress.replies.bytes) }
@@ -49,6 +50,7 @@ impl<W: Write> Steps<W> {
     // The bytes of one read are answered, as many at a time as their replies have room for, which are then written.
     fn take_input(&mut self, input: &[u8]) -> io::Result<()>
         requires { self.old.progress.replies.bytes ≡ [] }
+        ensures same_table { self.new.progress.table.ghost_name ≡ self.old.progress.table.ghost_name }
         ensures ready { self.new.progress.replies.bytes ≡ [] }
         ensures all { OnOk result (Carried self.old.progress input.now self.new.progress) }
         ensures front { OnErr result (CarriedFront self.old.progress input.now self.new.progress) }
@@ -66,6 +68,7 @@ impl<W: Write> Steps<W> {
     // One read, into the lent input: what it gave is answered. A failed read gives nothing, as one at the end.
     fn take_some<R: Read>(&mut self, source: &mut R, input: &mut [u8]) -> io::Result<usize>
         requires { self.old.progress.replies.bytes ≡ [] }
+        ensures same_table { self.new.progress.table.ghost_name ≡ self.old.progress.table.ghost_name }
         ensures ready { self.new.progress.replies.bytes ≡ [] }
         ensures all { IfOk result (λ got. Carried self.old.progress (take got input.new) self.new.progress) }
         ensures front { OnErr result (CarriedFront self.old.progress input.new self.new.progress) }
@@ -82,6 +85,7 @@ impl<W: Write> Steps<W> {
     #[tactic(auto, using(crate::specs::StreamLaws::read_by_read))]
     fn take_all<R: Read>(&mut self, source: &mut R) -> io::Result<()>
         requires { self.old.progress.replies.bytes ≡ [] }
+        ensures same_table { self.new.progress.table.ghost_name ≡ self.old.progress.table.ghost_name }
         ensures ready { self.new.progress.replies.bytes ≡ [] }
         ensures carried { CarriedSome self.old.progress self.new.progress }
         ensures streamed { OnOk result (Streamed self.old.progress (R.remaining source.old) (W.contents self.old.sink)
@@ -100,9 +104,10 @@ impl<W: Write> Steps<W> {
     #[tactic(auto, using(crate::specs::StreamLaws::over_all))]
     fn answer_all<R: Read>(&mut self, source: &mut R) -> io::Result<()>
         requires { self.old.progress.replies.bytes ≡ [] }
-        ensures carried { (t : List ℤ) → StandsFor (fresh_session t) self.old.progress → CarriedAll t self.new.progress.table }
+        ensures same_table { self.new.progress.table.ghost_name ≡ self.old.progress.table.ghost_name }
+        ensures carried { (t : List ℤ) → StandsFor (fresh_session t) self.old.progress → CarriedAll t self.new.progress.table.now }
         ensures answered { OnOk result ((t : List ℤ) → StandsFor (fresh_session t) self.old.progress
-            → AnsweredAll t (R.remaining source.old) (W.contents self.old.sink) self.new.progress.table
+            → AnsweredAll t (R.remaining source.old) (W.contents self.old.sink) self.new.progress.table.now
             (R.remaining source.new) (W.contents self.new.sink)) }
     {
         self.take_all(source)?;
@@ -113,9 +118,10 @@ impl<W: Write> Steps<W> {
 
 // From a fresh start, the whole of standard input. A write that fails ends it.
 pub fn run(rt: &(impl Input + Print)) {
+    let mut table = [0; TABLE_WORDS];
     let mut steps = Steps {
         sink: io::writer(rt),
-        progress: Progress::fresh([0; TABLE_WORDS]),
+        progress: Progress::fresh(&mut table),
     };
     let _ = steps.answer_all(&mut rt.reader());
 }

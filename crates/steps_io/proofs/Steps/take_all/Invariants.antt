@@ -1,4 +1,4 @@
--- `steps_io::Steps::take_all`: the loop's invariant is that no reply waits, and that a session that stood stands where the bytes of the
+-- `steps_io::Steps::take_all`: the loop's invariant is that the lent table is the same, that no reply waits, and that a session that stood stands where the bytes of the
 -- reads so far have led it, with what was answered to them written. Assumes nothing.
 use Rattle.std.proofs.Common.{◌≡◌, []}
 use Rattle.steps_io.specs.Carried.{CarriedSome}
@@ -7,6 +7,7 @@ use Rattle.steps_io.proofs.Steps.take_all.Given as goal
 
 abbrev pub invariant-loop : goal.invariant-loop
 invariant-loop g l = record {
+  same : l.self.progress.table.ghost_name ≡ l.fn.self.progress.table.ghost_name;
   ready : l.self.progress.replies.bytes ≡ [];
   carried : CarriedSome l.fn.self.progress l.self.progress;
   streamed : Streamed l.fn.self.progress (g.R.Read.remaining l.fn.source) (g.W.Write.contents l.fn.self.sink)

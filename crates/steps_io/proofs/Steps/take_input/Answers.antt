@@ -1,13 +1,13 @@
 -- `steps_io::Steps::take_input`: before the loop no byte is handed on (`carried_none`), and a turn carries the session on over the bytes
 -- that it takes, of which there is at least one (`carried_on`). Assumes nothing.
-use Rattle.std.proofs.Common.{[], ◌++◌, take, refl, rules}
+use Rattle.std.proofs.Common.{[], ◌∙◌, ◌++◌, take, refl, rules}
 use borrow.Author.Rules.{part_to_end}
 use Rattle.steps_io.specs.CarriedLaws.{carried_none, taken_and_written, carried_on, front_of, part_over}
 use Rattle.steps_io.specs.StreamLaws.{none_written, replies_out, written_on}
 use Rattle.steps_io.proofs.Steps.take_input.Goals as goal
 
 pub loop-rest-init : goal.loop-rest-init
-loop-rest-init g c = record { front = []; whole = refl; ready = c.requires; carried = carried_none c.requires; written = none_written _ c.requires }
+loop-rest-init g c = record { front = []; whole = refl; same = refl; ready = c.requires; carried = carried_none c.requires; written = none_written _ c.requires }
 
 pub returns-in_err-write_replies-clause-front : goal.returns-in_err-write_replies-clause-front
 returns-in_err-write_replies-clause-front g c =
@@ -24,6 +24,7 @@ loop-rest-preserved g c =
     record {
       front = c.loop-rest.invariant.front ++ part;
       whole = rw part_to_end (part_over _ _ c.loop-rest.rest.now c.take_bytes-count.result c.loop-rest.invariant.whole);
+      same = c.write_replies.ensures.same_table ∙ c.take_bytes-count.ensures.same_table ∙ c.loop-rest.invariant.same;
       ready = c.write_replies.ensures.ready;
       carried = carried_on c.loop-rest.invariant.front part c.loop-rest.invariant.carried turn;
       written = written_on c.loop-rest.invariant.front part c.loop-rest.invariant.carried c.loop-rest.invariant.written

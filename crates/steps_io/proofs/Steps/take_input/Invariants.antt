@@ -9,6 +9,7 @@ abbrev pub invariant-loop-rest : goal.invariant-loop-rest
 invariant-loop-rest g l = record {
   front : List ℕ;
   whole : l.input ≡ front ++ l.rest;
+  same : l.self.progress.table.ghost_name ≡ l.fn.self.progress.table.ghost_name;
   ready : l.self.progress.replies.bytes ≡ [];
   carried : Carried l.fn.self.progress front l.self.progress;
   written : Written l.fn.self.progress (g.W.Write.contents l.fn.self.sink) front (g.W.Write.contents l.self.sink);
