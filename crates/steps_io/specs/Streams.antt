@@ -1,15 +1,22 @@
 -- What is read and written, where that is known: the bytes that were handed on are those that the source gave, and what was answered
 -- to them stands behind what the sink held. Assumes nothing.
-use Rattle.std.specs.Prelude.{◌≡◌, List, ℕ, ℤ, Option}
+use Rattle.std.specs.Prelude.{◌≡◌, List, ℕ, ◌≤◌, ℤ, Option, length, take}
 use Rattle.std.specs.Io.KnownBytes.{Appends, Consumes}
 use Rattle.steps_lines.specs.declared.Progress.{Progress}
 use Rattle.steps_lines.specs.LineSessions.{LineSession, fresh_session, after_bytes, finished}
 use Rattle.steps_lines.specs.Standing.{StandsFor}
-use Rattle.steps_io.specs.Carried.{Carried}
+use Rattle.steps_io.specs.Carried.{Carried, CarriedFront}
 
 -- what was answered to some bytes was written
 pub record Written {most : ℕ} (p : Progress most) (sink : Option (List ℕ)) (bytes : List ℕ) (sink' : Option (List ℕ)) : Type 0 where
   pub output : (s : LineSession) → StandsFor s p → Appends sink sink' (after_bytes s bytes).output
+
+-- one read gave the first bytes of its input, of which a front was handed on, where a write failed
+pub record ReadFront {most : ℕ} (p : Progress most) (source : Option (List ℕ)) (input : List ℕ) (p' : Progress most) (source' : Option (List ℕ)) : Type 0 where
+  pub got : ℕ
+  pub within : got ≤ length input
+  pub read : Consumes source source' (take got input)
+  pub front : CarriedFront p (take got input) p'
 
 -- what was read was handed on, and answered
 pub record Streamed {most : ℕ} (p : Progress most) (source sink : Option (List ℕ)) (p' : Progress most) (source' sink' : Option (List ℕ)) : Type 0 where

@@ -30,7 +30,7 @@ impl<W: Write> Steps<'_, W> {
     ghost use Rattle.steps_lines.specs.LineSessions.{fresh_session};
     ghost use Rattle.steps_lines.specs.Standing.{StandsFor};
     ghost use Rattle.steps_io.specs.Carried.{Carried, CarriedFront, CarriedSome, CarriedAll};
-    ghost use Rattle.steps_io.specs.Streams.{Written, Streamed, AnsweredAll};
+    ghost use Rattle.steps_io.specs.Streams.{Written, ReadFront, Streamed, AnsweredAll};
 
     // The replies that wait are written, and none waits.
     #[tactic(auto, using(crate::specs::CarriedLaws::replies_written))]
@@ -65,13 +65,14 @@ impl<W: Write> Steps<'_, W> {
         Ok(())
     }
 
-    // One read, into the lent input: what it gave is answered. A failed read gives nothing, as one at the end.
+    // One read, into the lent input: what it gave is answered, or a front of it where a write fails. A failed read gives nothing, as
+    // one at the end.
     fn take_some<R: Read>(&mut self, source: &mut R, input: &mut [u8]) -> io::Result<usize>
         requires { self.old.progress.replies.bytes ≡ [] }
         ensures same_table { self.new.progress.table.ghost_name ≡ self.old.progress.table.ghost_name }
         ensures ready { self.new.progress.replies.bytes ≡ [] }
         ensures all { IfOk result (λ got. Carried self.old.progress (take got input.new) self.new.progress) }
-        ensures front { OnErr result (CarriedFront self.old.progress input.new self.new.progress) }
+        ensures front { OnErr result (ReadFront self.old.progress (R.remaining source.old) input.new self.new.progress (R.remaining source.new)) }
         ensures written { IfOk result (λ got. Written self.old.progress (W.contents self.old.sink) (take got input.new)
             (W.contents self.new.sink)) }
         ensures read { IfOk result (λ got. Consumes (R.remaining source.old) (R.remaining source.new) (take got input.new)) }
