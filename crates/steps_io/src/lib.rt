@@ -17,16 +17,17 @@ const TABLE_WORDS: usize = 64;
 // How many bytes a read takes at most.
 const INPUT_BYTES: usize = 65536;
 
-// Where replies are written, and what stands between two bytes.
+// Where replies are written, and what stands between two bytes; the replies wait in a text that has room for the longest line.
 #[derive(Drop)]
-struct Steps<'a, W> {
+struct Steps<'a, W, const BYTES: usize> {
     sink: W,
-    progress: Progress<'a, REPLY_BYTES>,
+    progress: Progress<'a, BYTES>,
 }
 
-impl<W: Write> Steps<'_, W> {
-    ghost use Rattle.std.specs.Prelude.{◌≡◌, [], List, ℤ, take, IfOk, OnOk, OnErr};
+impl<W: Write, const BYTES: usize> Steps<'_, W, BYTES> {
+    ghost use Rattle.std.specs.Prelude.{◌≡◌, ◌≤◌, [], List, ℤ, take, IfOk, OnOk, OnErr};
     ghost use Rattle.std.specs.Io.KnownBytes.{Appends, Consumes};
+    ghost use Rattle.steps_replies.specs.Written.{longest_line};
     ghost use Rattle.steps_lines.specs.LineSessions.{fresh_session};
     ghost use Rattle.steps_lines.specs.Standing.{StandsFor};
     ghost use Rattle.steps_io.specs.Carried.{Carried, CarriedFront, CarriedSome, CarriedAll};
@@ -49,7 +50,8 @@ impl<W: Write> Steps<'_, W> {
 
     // The bytes of one read are answered, as many at a time as their replies have room for, which are then written.
     fn take_input(&mut self, input: &[u8]) -> io::Result<()>
-        requires { self.old.progress.replies.bytes ≡ [] }
+        requires room { longest_line ≤ BYTES }
+        requires ready { self.old.progress.replies.bytes ≡ [] }
         ensures same_table { self.new.progress.table.ghost_name ≡ self.old.progress.table.ghost_name }
         ensures ready { self.new.progress.replies.bytes ≡ [] }
         ensures all { OnOk result (Carried self.old.progress input.now self.new.progress) }
@@ -68,7 +70,8 @@ impl<W: Write> Steps<'_, W> {
     // One read, into the lent input: what it gave is answered, or a front of it where a write fails. A failed read gives nothing, as
     // one at the end.
     fn take_some<R: Read>(&mut self, source: &mut R, input: &mut [u8]) -> io::Result<usize>
-        requires { self.old.progress.replies.bytes ≡ [] }
+        requires room { longest_line ≤ BYTES }
+        requires ready { self.old.progress.replies.bytes ≡ [] }
         ensures same_table { self.new.progress.table.ghost_name ≡ self.old.progress.table.ghost_name }
         ensures ready { self.new.progress.replies.bytes ≡ [] }
         ensures all { IfOk result (λ got. Carried self.old.progress (take got input.new) self.new.progress) }
@@ -85,7 +88,8 @@ impl<W: Write> Steps<'_, W> {
     // Reads until one gives nothing. A proved loop has to end, and nothing says that the input does: no input has so many bytes.
     #[tactic(auto, using(crate::specs::StreamLaws::read_by_read))]
     fn take_all<R: Read>(&mut self, source: &mut R) -> io::Result<()>
-        requires { self.old.progress.replies.bytes ≡ [] }
+        requires room { longest_line ≤ BYTES }
+        requires ready { self.old.progress.replies.bytes ≡ [] }
         ensures same_table { self.new.progress.table.ghost_name ≡ self.old.progress.table.ghost_name }
         ensures ready { self.new.progress.replies.bytes ≡ [] }
         ensures carried { CarriedSome self.old.progress self.new.progress }
@@ -104,7 +108,8 @@ impl<W: Write> Steps<'_, W> {
     // All lines; the last one where all replies before it were written.
     #[tactic(auto, using(crate::specs::StreamLaws::over_all))]
     fn answer_all<R: Read>(&mut self, source: &mut R) -> io::Result<()>
-        requires { self.old.progress.replies.bytes ≡ [] }
+        requires room { longest_line ≤ BYTES }
+        requires ready { self.old.progress.replies.bytes ≡ [] }
         ensures same_table { self.new.progress.table.ghost_name ≡ self.old.progress.table.ghost_name }
         ensures carried { (t : List ℤ) → StandsFor (fresh_session t) self.old.progress → CarriedAll t self.new.progress.table.now }
         ensures answered { OnOk result ((t : List ℤ) → StandsFor (fresh_session t) self.old.progress
@@ -120,7 +125,7 @@ impl<W: Write> Steps<'_, W> {
 // From a fresh start, the whole of standard input. A write that fails ends it.
 pub fn run(rt: &(impl Input + Print)) {
     let mut table = [0; TABLE_WORDS];
-    let mut steps = Steps {
+    let mut steps = Steps::<_, REPLY_BYTES> {
         sink: io::writer(rt),
         progress: Progress::fresh(&mut table),
     };

@@ -7,7 +7,7 @@ use Rattle.steps_io.specs.StreamLaws.{none_written, replies_out, written_on}
 use Rattle.steps_io.proofs.Steps.take_input.Goals as goal
 
 pub loop-rest-init : goal.loop-rest-init
-loop-rest-init g c = record { front = []; whole = refl; same = refl; ready = c.requires; carried = carried_none c.requires; written = none_written _ c.requires }
+loop-rest-init g c = record { front = []; whole = refl; same = refl; ready = c.requires.ready; carried = carried_none c.requires.ready; written = none_written _ c.requires.ready }
 
 pub returns-in_err-write_replies-clause-front : goal.returns-in_err-write_replies-clause-front
 returns-in_err-write_replies-clause-front g c =
