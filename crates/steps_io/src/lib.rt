@@ -87,7 +87,7 @@ impl<W: Write, const BYTES: usize> Steps<'_, W, BYTES> {
 
     // Reads until one gives nothing. A proved loop has to end, and nothing says that the input does: no input has so many bytes.
     #[tactic(auto, using(crate::specs::StreamLaws::read_by_read))]
-    fn take_all<R: Read>(&mut self, source: &mut R) -> io::Result<()>
+    fn take_all<R: Read>(&mut self, source: &mut R, input: &mut [u8]) -> io::Result<()>
         requires room { longest_line ≤ BYTES }
         requires ready { self.old.progress.replies.bytes ≡ [] }
         ensures same_table { self.new.progress.table.ghost_name ≡ self.old.progress.table.ghost_name }
@@ -96,9 +96,8 @@ impl<W: Write, const BYTES: usize> Steps<'_, W, BYTES> {
         ensures streamed { OnOk result (Streamed self.old.progress (R.remaining source.old) (W.contents self.old.sink)
             self.new.progress (R.remaining source.new) (W.contents self.new.sink)) }
     {
-        let mut input = [0; INPUT_BYTES];
         for _ in 0..u64::MAX {
-            if self.take_some(source, &mut input)? == 0 {
+            if self.take_some(source, input)? == 0 {
                 return Ok(());
             }
         }
@@ -107,7 +106,7 @@ impl<W: Write, const BYTES: usize> Steps<'_, W, BYTES> {
 
     // All lines; the last one where all replies before it were written.
     #[tactic(auto, using(crate::specs::StreamLaws::over_all))]
-    fn answer_all<R: Read>(&mut self, source: &mut R) -> io::Result<()>
+    fn answer_all<R: Read>(&mut self, source: &mut R, input: &mut [u8]) -> io::Result<()>
         requires room { longest_line ≤ BYTES }
         requires ready { self.old.progress.replies.bytes ≡ [] }
         ensures same_table { self.new.progress.table.ghost_name ≡ self.old.progress.table.ghost_name }
@@ -116,7 +115,7 @@ impl<W: Write, const BYTES: usize> Steps<'_, W, BYTES> {
             → AnsweredAll t (R.remaining source.old) (W.contents self.old.sink) self.new.progress.table.now
             (R.remaining source.new) (W.contents self.new.sink)) }
     {
-        self.take_all(source)?;
+        self.take_all(source, input)?;
         self.progress.end_last();
         self.write_replies()
     }
@@ -125,9 +124,10 @@ impl<W: Write, const BYTES: usize> Steps<'_, W, BYTES> {
 // From a fresh start, the whole of standard input. A write that fails ends it.
 pub fn run(rt: &(impl Input + Print)) {
     let mut table = [0; TABLE_WORDS];
+    let mut input = [0; INPUT_BYTES];
     let mut steps = Steps::<_, REPLY_BYTES> {
         sink: io::writer(rt),
         progress: Progress::fresh(&mut table),
     };
-    let _ = steps.answer_all(&mut rt.reader());
+    let _ = steps.answer_all(&mut rt.reader(), &mut input);
 }
