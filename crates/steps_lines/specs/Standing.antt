@@ -1,4 +1,4 @@
--- How a session stands in memory: the table's words, the record, the line as far as its bytes tell what it asks, and the replies
+-- How a session stands in memory: the lent table's words, the record, the line as far as its bytes tell what it asks, and the replies
 -- that wait. Assumes nothing.
 use Rattle.std.specs.Prelude.{◌≡◌, ℕ, ◌+◌, take}
 use Rattle.steps_commands.specs.Longest.{longest_command}
