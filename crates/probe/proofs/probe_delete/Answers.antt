@@ -1,4 +1,5 @@
--- `probe::probe_delete`: the numbers are those of the call's answer, at the record that the words stand for; what it leaves is what the call leaves. Assumes nothing.
+-- `probe::probe_delete`: the numbers are those of the call's answer, at the record that the words stand for; what it leaves is what the
+-- call leaves. Assumes nothing.
 use Rattle.std.proofs.Common.{rules, ◌≡◌, ap, ◌∙◌}
 use Rattle.changes.specs.Places.{delete_numbers}
 use Rattle.changes.specs.Delete.{delete_answer}

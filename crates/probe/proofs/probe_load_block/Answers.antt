@@ -1,4 +1,5 @@
--- `probe::probe_load_block`: the numbers are those of the call's answer, at the record that the words stand for; what it leaves is what the call leaves. Assumes nothing.
+-- `probe::probe_load_block`: the numbers are those of the call's answer, at the record that the words stand for; what it leaves is what the
+-- call leaves. Assumes nothing.
 use Rattle.std.proofs.Common.{ap, ◌∙◌}
 use Rattle.calls.specs.Numbers.{of_done}
 use Rattle.probe.specs.AnswerLaws.{done_padded}
