@@ -1,5 +1,5 @@
--- `steps_io::Steps::take_all`: the loop's invariant is that the lent table is the same, that no reply waits, and that a session that stood stands where the bytes of the
--- reads so far have led it, with what was answered to them written. Assumes nothing.
+-- `steps_io::Steps::take_all`: the loop's invariant is that the lent table is the same, that no reply waits, and that a session that
+-- stood stands where the bytes of the reads so far have led it, with what was answered to them written. Assumes nothing.
 use Rattle.std.proofs.Common.{◌≡◌, []}
 use Rattle.steps_io.specs.Carried.{CarriedSome}
 use Rattle.steps_io.specs.Streams.{Streamed}

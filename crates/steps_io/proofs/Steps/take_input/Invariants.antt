@@ -1,5 +1,6 @@
 -- `steps_io::Steps::take_input`: the loop's invariant is that the bytes before `rest` are handed on, and a session that stood stands
--- where they led it, with no reply that waits and all of them written. The measure is how many are left. Assumes nothing.
+-- where they led it, with no reply that waits and all of them written, over the same lent table. The measure is how many are
+-- left. Assumes nothing.
 use Rattle.std.proofs.Common.{◌≡◌, List, [], ◌++◌, ℕ, length}
 use Rattle.steps_io.specs.Carried.{Carried}
 use Rattle.steps_io.specs.Streams.{Written}

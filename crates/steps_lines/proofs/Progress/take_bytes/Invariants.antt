@@ -1,5 +1,5 @@
--- `steps_lines::Progress::take_bytes`: the loop's invariant is that the lent table is the same and every session that stood stands where the
--- bytes so far have led it, with room for a line before the first, so that it is taken. Assumes nothing.
+-- `steps_lines::Progress::take_bytes`: the loop's invariant is that the lent table is the same and every session that stood stands
+-- where the bytes so far have led it, with room for a line before the first, so that it is taken. Assumes nothing.
 use Rattle.std.proofs.Common.{◌≡◌, ◌+◌, ◌≤◌, length, take}
 use Rattle.steps_replies.specs.Written.{longest_line}
 use Rattle.steps_lines.specs.LineSessions.{LineSession, after_bytes}
