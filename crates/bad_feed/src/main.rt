@@ -3,13 +3,18 @@
 // it read before, one at version 1 stays expired, and the next run has the number 3 again. Says each answer, a line each.
 #![tactic(auto)]
 
-use reader::VersionRecord;
+use reader::{Refusal, VersionRecord};
 use std::io;
 
 const REGION: i64 = 7;
 
 // The table's words: 8 slots.
 const TABLE_WORDS: usize = 8 * reader::SLOT_WORDS;
+
+// A refused call would be a fault of this program, and ends it as a write that fails does.
+fn refused(_: Refusal) -> io::Error {
+    io::Error::other("a call was refused")
+}
 
 // The number of a version, after what was done.
 fn say_version(rt: &impl Print, done: &str, version: i64) -> io::Result<()> {
@@ -40,39 +45,36 @@ fn open_stores(
     rt: &impl Print,
     table: &mut [i64],
     versions: &mut VersionRecord,
-) -> anyhow::Result<()> {
-    reader::begin(versions)?;
-    reader::put(table, *versions, REGION, 1, 400, 0)?;
-    reader::put(table, *versions, REGION, 2, 250, 0)?;
-    reader::put(table, *versions, REGION, 3, 350, 0)?;
-    let committed = reader::commit(versions)?;
-    say_version(rt, "three stores are put in and committed", committed)?;
-    Ok(())
+) -> io::Result<()> {
+    reader::begin(versions).map_err(refused)?;
+    reader::put(table, *versions, REGION, 1, 400, 0).map_err(refused)?;
+    reader::put(table, *versions, REGION, 2, 250, 0).map_err(refused)?;
+    reader::put(table, *versions, REGION, 3, 350, 0).map_err(refused)?;
+    let committed = reader::commit(versions).map_err(refused)?;
+    say_version(rt, "three stores are put in and committed", committed)
 }
 
 // Run 3 on the bad feed, rolled back.
-fn give_up(rt: &impl Print, table: &mut [i64], versions: &mut VersionRecord) -> anyhow::Result<()> {
-    let begun = reader::begin(versions)?;
+fn give_up(rt: &impl Print, table: &mut [i64], versions: &mut VersionRecord) -> io::Result<()> {
+    let begun = reader::begin(versions).map_err(refused)?;
     say_version(rt, "a run begins on a bad feed", begun)?;
-    reader::put(table, *versions, REGION, 2, 5200, 0)?;
-    reader::delete(table, *versions, REGION, 3)?;
-    reader::put(table, *versions, REGION, 9, 100, 0)?;
-    let back = reader::roll_back(table, versions)?;
-    say_version(rt, "it is rolled back", back)?;
-    Ok(())
+    reader::put(table, *versions, REGION, 2, 5200, 0).map_err(refused)?;
+    reader::delete(table, *versions, REGION, 3).map_err(refused)?;
+    reader::put(table, *versions, REGION, 9, 100, 0).map_err(refused)?;
+    let back = reader::roll_back(table, versions).map_err(refused)?;
+    say_version(rt, "it is rolled back", back)
 }
 
 // Run 3 again, on the right feed.
-fn go_on(rt: &impl Print, table: &mut [i64], versions: &mut VersionRecord) -> anyhow::Result<()> {
-    let begun = reader::begin(versions)?;
+fn go_on(rt: &impl Print, table: &mut [i64], versions: &mut VersionRecord) -> io::Result<()> {
+    let begun = reader::begin(versions).map_err(refused)?;
     say_version(rt, "a run begins on the right feed", begun)?;
-    reader::put(table, *versions, REGION, 2, 205, 0)?;
-    let committed = reader::commit(versions)?;
-    say_version(rt, "it is committed", committed)?;
-    Ok(())
+    reader::put(table, *versions, REGION, 2, 205, 0).map_err(refused)?;
+    let committed = reader::commit(versions).map_err(refused)?;
+    say_version(rt, "it is committed", committed)
 }
 
-fn main(rt: HostRuntime) -> anyhow::Result<()> {
+fn main(rt: HostRuntime) -> io::Result<()> {
     let mut table = [0i64; TABLE_WORDS];
     let mut versions = VersionRecord::fresh();
     open_stores(&rt, &mut table, &mut versions)?;
@@ -83,6 +85,5 @@ fn main(rt: HostRuntime) -> anyhow::Result<()> {
     say_store(&rt, &table, versions, 1, 2)?;
     go_on(&rt, &mut table, &mut versions)?;
     say_store(&rt, &table, versions, 2, 2)?;
-    say_store(&rt, &table, versions, 3, 2)?;
-    Ok(())
+    say_store(&rt, &table, versions, 3, 2)
 }

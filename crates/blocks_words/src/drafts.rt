@@ -15,7 +15,7 @@ pub struct Draft {
 
 // A word stored at a place.
 #[tactic(auto, using(crate::specs::FollowLaws::word_over))]
-fn put_word(block: &mut [u8; BLOCK_BYTES], place: usize, word: u32)
+pub fn put_word(block: &mut [u8; BLOCK_BYTES], place: usize, word: u32)
     requires { place ≤ check_place }
     ensures { block.new ≡ sets block.old (place * word_bytes) (digits byte_base word_bytes word) }
 {

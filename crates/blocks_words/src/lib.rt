@@ -8,6 +8,8 @@ ghost use Rattle.blocks_words.specs.Words.{check_place, word_base, word_at, tota
 pub mod drafts;
 pub mod longs;
 
+pub use drafts::put_word;
+
 // The bytes of a block.
 pub const BLOCK_BYTES: usize = 512;
 

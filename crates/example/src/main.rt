@@ -5,6 +5,11 @@
 use reader::{Refusal, Row, Sums, VersionRecord};
 use std::io;
 
+// A refused call would be a fault of this program, and ends it as a write that fails does.
+fn refused(_: Refusal) -> io::Error {
+    io::Error::other("a call was refused")
+}
+
 // What a read answers: a row, of which the first total is told; no row; or a refusal. A session that has expired opens again, and any
 // other refusal here would be a fault.
 fn print_seen(rt: &impl Print, seen: Result<Option<Row>, Refusal>) -> io::Result<()> {
@@ -36,10 +41,10 @@ fn print_means(rt: &impl Print, sums: Sums) -> io::Result<()> {
     print_mean(rt, sums.reported2, sums.sum2)
 }
 
-fn main(rt: HostRuntime) -> anyhow::Result<()> {
+fn main(rt: HostRuntime) -> io::Result<()> {
     let mut table = [0i64; 64];
     let mut versions = VersionRecord::fresh();
-    reader::begin(&mut versions)?;
+    reader::begin(&mut versions).map_err(refused)?;
     reader::put(
         &mut table,
         versions,
@@ -47,7 +52,8 @@ fn main(rt: HostRuntime) -> anyhow::Result<()> {
         19961014,
         10000,
         reader::NOT_REPORTED,
-    )?;
+    )
+    .map_err(refused)?;
     reader::put(
         &mut table,
         versions,
@@ -55,13 +61,14 @@ fn main(rt: HostRuntime) -> anyhow::Result<()> {
         19961015,
         reader::NOT_REPORTED,
         reader::NOT_REPORTED,
-    )?;
-    reader::commit(&mut versions)?;
+    )
+    .map_err(refused)?;
+    reader::commit(&mut versions).map_err(refused)?;
     print!(rt; "session 2 ")?;
     print_seen(&rt, reader::read_key(&table, versions, 2, 1, 19961014))?;
-    print_means(&rt, reader::roll_up(&table, versions, 2, 1)?)?;
-    reader::begin(&mut versions)?;
+    let sums = reader::roll_up(&table, versions, 2, 1).map_err(refused)?;
+    print_means(&rt, sums)?;
+    reader::begin(&mut versions).map_err(refused)?;
     print!(rt; "session 1 ")?;
-    print_seen(&rt, reader::read_key(&table, versions, 1, 1, 19961014))?;
-    Ok(())
+    print_seen(&rt, reader::read_key(&table, versions, 1, 1, 19961014))
 }

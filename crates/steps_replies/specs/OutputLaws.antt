@@ -40,10 +40,10 @@ pub two_fitting : (word : List ℕ) (one two : ℤ) → length word ≤ 3 → le
 two_fitting word one two w d e = simp (length-append) (omega (arith, w, d, e))
 
 -- ---- of each answer
-natural_bytes : (n : ℕ) → n < 18446744073709551616 → length (signed_decimal (pos n)) ≤ 20
+pub natural_bytes : (n : ℕ) → n < 18446744073709551616 → length (signed_decimal (pos n)) ≤ 20
 natural_bytes n l = length-decimal-le 20 n (omega arith) (omega (arith, l)) (omega (arith, l))
 
-signed_bytes : (z : ℤ) → SFits w64 z → length (signed_decimal z) ≤ 20
+pub signed_bytes : (z : ℤ) → SFits w64 z → length (signed_decimal z) ≤ 20
 signed_bytes (pos n) f = natural_bytes n (omega (arith, f.sfits))
 signed_bytes (negsuc n) f = omega (arith, length-decimal-le 19 (suc n) (omega arith) (omega (arith, f.sfits)) (omega (arith, f.sfits)))
 
