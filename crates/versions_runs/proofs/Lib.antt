@@ -1,0 +1,2 @@
+pub mod LentRecord
+pub mod Lent
