@@ -6,6 +6,10 @@ use Rattle.steps_lines.specs.declared.Progress.{Progress}
 use Rattle.steps_lines.specs.LineSessions.{LineSession, fresh_session, written_out, after_bytes, finished}
 use Rattle.steps_lines.specs.Standing.{StandsFor}
 
+-- what is left at the end: the last line was answered, where every write before it was taken
+abbrev pub at_end : Bool → LineSession → LineSession
+at_end taken s = cond taken (finished s) s
+
 module _ {most : ℕ} (p : Progress most) where
   -- these bytes were handed on
   pub record Carried (bytes : List ℕ) (p' : Progress most) : Type 0 where
@@ -21,9 +25,9 @@ module _ {most : ℕ} (p : Progress most) where
     pub bytes : List ℕ
     pub carried : Carried bytes p'
 
--- what is left at the end: the last line was answered, where every write before it was taken
-abbrev pub at_end : Bool → LineSession → LineSession
-at_end taken s = cond taken (finished s) s
+  -- the end: the last line was answered where every write before it was taken, and else the table stays as the session left it
+  pub record CarriedLast (taken : Bool) (t' : List ℤ) : Type 0 where
+    pub words : (s : LineSession) → StandsFor s p → t' ≡ (at_end taken s).words
 
 -- from a fresh start: the table is left as some bytes lead it, to the end of the last line or to a write that failed
 pub record CarriedAll (t t' : List ℤ) : Type 0 where

@@ -1,6 +1,6 @@
 -- How a session goes on being carried: over no bytes it stands as it stood, over bytes after bytes as over all of them, and at the
 -- end as if its replies had not been written out before. Assumes nothing.
-use Rattle.std.specs.Prelude.{◌≡◌, true, false, List, [], ◌++◌, ℕ, ℤ, length, take, drop}
+use Rattle.std.specs.Prelude.{◌≡◌, refl, Bool, true, false, List, [], ◌++◌, ℕ, ℤ, length, take, drop}
 use Rattle.std.proofs.Common.{ap, sym, ◌∙◌, append_assoc}
 use Rattle.std.proofs.lemmas.List.{take-append-drop}
 use Rattle.std.proofs.Math.Seq.{take-append_seam}
@@ -9,7 +9,7 @@ use Rattle.steps_lines.specs.declared.Progress.{Progress}
 use Rattle.steps_lines.specs.LineSessions.{LineSession, fresh_session, written_out, after_bytes, finished}
 use Rattle.steps_lines.specs.LineSessionLaws.{no_bytes, written_between, written_last}
 use Rattle.steps_lines.specs.Standing.{StandsFor}
-use Rattle.steps_io.specs.Carried.{Carried, CarriedFront, CarriedSome, CarriedAll}
+use Rattle.steps_io.specs.Carried.{Carried, CarriedFront, CarriedSome, CarriedLast, CarriedAll, at_end}
 
 module _ {most : ℕ} {p : Progress most} where
   -- the replies are written, and none waits
@@ -44,18 +44,25 @@ pub part_over : (input front rest : List ℕ) (count : ℕ) → input ≡ front 
 part_over input front rest count e =
     e ∙ ap (λ l. front ++ l) (sym (take-append-drop count rest)) ∙ sym (append_assoc front (take count rest) (drop count rest))
 
--- at the end it is as if the replies had not been written out
-module _ {most : ℕ} {t : List ℤ} {p p' : Progress most} (w : StandsFor (fresh_session t) p) (a : CarriedSome p p') where
-  pub all_carried : {last end : Progress most} → ((s : LineSession) → StandsFor s p' → StandsFor (finished s) last) → Carried last [] end
-      → CarriedAll t end.table.now
-  all_carried finish out =
-      let s = after_bytes (fresh_session t) a.bytes in
-      record {
-        bytes = a.bytes;
-        taken = true;
-        words = (rw (no_bytes (finished (written_out s))) at ((out.stands _ (finish _ (a.carried.stands _ w))).words)) ∙ ap (λ u. u.words) (written_last s);
-      }
+-- ---- the last line was answered, and its reply written
+module _ {most : ℕ} {p : Progress most} where
+  pub last_carried : {last end : Progress most} → ((s : LineSession) → StandsFor s p → StandsFor (finished s) last) → Carried last [] end
+      → CarriedLast p true end.table.now
+  last_carried finish out = record { words = λ s w. rw (no_bytes (finished s)) at ((out.stands _ (finish s w)).words) }
 
   -- or a write failed before
-  pub cut_off : CarriedAll t p'.table.now
-  cut_off = record { bytes = a.bytes; taken = false; words = (a.carried.stands _ w).words }
+  pub cut_off : CarriedLast p false p.table.now
+  cut_off = record { words = λ s w. w.words }
+
+-- at the end it is as if the replies had not been written out
+at_end_lem : (taken : Bool) (s : LineSession) → (at_end taken (written_out s)).words ≡ (at_end taken s).words
+at_end_lem true s = ap (λ u. u.words) (written_last s)
+at_end_lem false s = refl
+
+pub all_carried : {most : ℕ} {t t' t'' : List ℤ} {p p' : Progress most} {taken : Bool} → StandsFor (fresh_session t) p → CarriedSome p p'
+    → CarriedLast p' taken t' → t'' ≡ t' → CarriedAll t t''
+all_carried {t} {taken = taken} w a last e = record {
+  bytes = a.bytes;
+  taken = taken;
+  words = e ∙ last.words _ (a.carried.stands _ w) ∙ at_end_lem taken (after_bytes (fresh_session t) a.bytes);
+}

@@ -1,6 +1,6 @@
 -- How what is written goes on: what is answered to bytes after bytes stands behind what was answered before, and at the end what is
 -- answered to the last line. Assumes nothing.
-use Rattle.std.specs.Prelude.{◌≡◌, List, [], ◌++◌, ℕ, ℤ, Option}
+use Rattle.std.specs.Prelude.{◌≡◌, Result, Ok, Err, is_ok, IsOk, OnOk, List, [], ◌++◌, ℕ, ℤ, Option}
 use Rattle.std.proofs.Common.{ap, ◌∙◌, subst}
 use Rattle.std.proofs.KnownBytes.{Appends-nil, Appends-trans, Consumes-nil, Consumes-trans}
 use Rattle.std.specs.Io.KnownBytes.{Appends, Consumes}
@@ -8,9 +8,9 @@ use Rattle.steps_lines.specs.declared.Progress.{Progress}
 use Rattle.steps_lines.specs.LineSessions.{LineSession, fresh_session, written_out, after_bytes, finished}
 use Rattle.steps_lines.specs.LineSessionLaws.{no_bytes, in_turn, since_written, since_written_last, written_last}
 use Rattle.steps_lines.specs.Standing.{StandsFor}
-use Rattle.steps_io.specs.Carried.{Carried}
-use Rattle.steps_io.specs.CarriedLaws.{carried_none, carried_on, some_on, all_carried, cut_off}
-use Rattle.steps_io.specs.Streams.{Written, Streamed, AnsweredAll}
+use Rattle.steps_io.specs.Carried.{Carried, CarriedLast}
+use Rattle.steps_io.specs.CarriedLaws.{carried_none, carried_on, some_on, last_carried, cut_off}
+use Rattle.steps_io.specs.Streams.{Written, WrittenLast, Streamed, AnsweredAll}
 
 module _ {most : ℕ} {p : Progress most} where
   -- nothing
@@ -46,21 +46,26 @@ module _ {most : ℕ} {p : Progress most} where
   }
 
 -- the last line
-pub all_answered : {most : ℕ} {t : List ℤ} {p p' last end : Progress most} {source source' sink sink' sink'' : Option (List ℕ)} → StandsFor (fresh_session t) p
-    → Streamed p source sink p' source' sink' → ((s : LineSession) → StandsFor s p' → StandsFor (finished s) last) → Carried last [] end
-    → Appends sink' sink'' last.replies.bytes → AnsweredAll t source sink end.table.now source' sink''
-all_answered {t} {source = source} {sink = sink} {sink' = sink'} {sink'' = sink''} w a finish out appended =
+pub last_written : {most : ℕ} {p last : Progress most} {sink sink' : Option (List ℕ)} → ((s : LineSession) → StandsFor s p → StandsFor (finished s) last)
+    → Appends sink sink' last.replies.bytes → WrittenLast p sink sink'
+last_written {sink = sink} {sink' = sink'} finish out = record { output = λ s w. subst (Appends sink sink') (finish s w).output out }
+
+pub all_answered : {E : Type 0} {most : ℕ} {t t' t'' : List ℤ} {p p' : Progress most} (source source' sink sink' sink'' : Option (List ℕ)) (all result : Result Unit E)
+    → StandsFor (fresh_session t) p → OnOk all (Streamed p source sink p' source' sink') → CarriedLast p' (is_ok all) t' → OnOk result (IsOk all)
+    → OnOk result (WrittenLast p' sink' sink'') → t'' ≡ t' → OnOk result (AnsweredAll t source sink t'' source' sink'')
+all_answered source source' sink sink' sink'' all (Err e) w a last taken written e' = tt
+all_answered source source' sink sink' sink'' (Err e) (Ok x) w a last taken written e' = absurd (cc)
+all_answered {t = t} source source' sink sink' sink'' (Ok y) (Ok x) w a last taken written e' =
     let s = after_bytes (fresh_session t) a.bytes in
-    let stood = finish _ (a.carried.stands _ w) in
     record {
       bytes = a.bytes;
-      words = (rw (no_bytes (finished (written_out s))) at ((out.stands _ stood).words)) ∙ ap (λ u. u.words) (written_last s);
+      words = e' ∙ last.words _ (a.carried.stands _ w) ∙ ap (λ u. u.words) (written_last s);
       read = a.read;
       written = rw (ap (λ u. u.output) (since_written_last s))
-          (Appends-trans sink sink' sink'' _ _ (a.written.output _ w) (subst (Appends sink' sink'') stood.output appended));
+          (Appends-trans sink sink' sink'' _ _ (a.written.output _ w) (written.output _ (a.carried.stands _ w)));
     }
 
--- over reads in turn, and over all
+-- over reads in turn, and over the last line
 pub ruleset read_by_read = (carried_none, some_on, none_streamed, streamed_on)
 
-pub ruleset over_all = (all_carried, cut_off, all_answered)
+pub ruleset over_last = (last_carried, cut_off, last_written)

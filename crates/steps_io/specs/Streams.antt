@@ -11,6 +11,10 @@ use Rattle.steps_io.specs.Carried.{Carried, CarriedFront}
 pub record Written {most : ℕ} (p : Progress most) (sink : Option (List ℕ)) (bytes : List ℕ) (sink' : Option (List ℕ)) : Type 0 where
   pub output : (s : LineSession) → StandsFor s p → Appends sink sink' (after_bytes s bytes).output
 
+-- and what was answered to the last line
+pub record WrittenLast {most : ℕ} (p : Progress most) (sink sink' : Option (List ℕ)) : Type 0 where
+  pub output : (s : LineSession) → StandsFor s p → Appends sink sink' (finished s).output
+
 -- one read gave the first bytes of its input, of which a front was handed on, where a write failed
 pub record ReadFront {most : ℕ} (p : Progress most) (source : Option (List ℕ)) (input : List ℕ) (p' : Progress most) (source' : Option (List ℕ)) : Type 0 where
   pub got : ℕ

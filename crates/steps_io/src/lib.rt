@@ -6,6 +6,12 @@
 // the standard streams: which bytes `read` gives, and that `write_all` writes what it is handed.
 #![tactic(auto)]
 
+ghost use Rattle.std.specs.Prelude.{◌≡◌, ◌≤◌, [], take, is_ok, IsOk, IfOk, OnOk, OnErr};
+ghost use Rattle.std.specs.Io.KnownBytes.{Appends, Consumes};
+ghost use Rattle.steps_replies.specs.Written.{longest_line};
+ghost use Rattle.steps_io.specs.Carried.{Carried, CarriedFront, CarriedSome, CarriedLast, CarriedAll};
+ghost use Rattle.steps_io.specs.Streams.{Written, WrittenLast, ReadFront, Streamed, AnsweredAll};
+
 use std::io;
 use std::io::{Read, Write};
 use steps_lines::Progress;
@@ -17,117 +23,134 @@ const TABLE_WORDS: usize = 64;
 // How many bytes a read takes at most.
 const INPUT_BYTES: usize = 65536;
 
-// Where replies are written, and what stands between two bytes; the replies wait in a text that has room for the longest line.
-#[derive(Drop)]
-struct Steps<'a, W, const BYTES: usize> {
-    sink: W,
-    progress: Progress<'a, BYTES>,
+// The replies that wait are written, and none waits.
+#[tactic(auto, using(crate::specs::CarriedLaws::replies_written))]
+fn write_replies<W: Write, const BYTES: usize>(
+    progress: &mut Progress<'_, BYTES>,
+    sink: &mut W,
+) -> io::Result<()>
+    ensures same_table { progress.new.table.ghost_name ≡ progress.old.table.ghost_name }
+    ensures ready { progress.new.replies.bytes ≡ [] }
+    ensures carried { Carried progress.old [] progress.new }
+    ensures written { OnOk result (Appends (W.contents sink.old) (W.contents sink.new) progress.old.replies.bytes) }
+{
+    let written = sink.write_all(progress.replies.as_str().as_bytes());
+    progress.replies.clear();
+    written
 }
 
-impl<W: Write, const BYTES: usize> Steps<'_, W, BYTES> {
-    ghost use Rattle.std.specs.Prelude.{◌≡◌, ◌≤◌, [], List, ℤ, take, IfOk, OnOk, OnErr};
-    ghost use Rattle.std.specs.Io.KnownBytes.{Appends, Consumes};
-    ghost use Rattle.steps_replies.specs.Written.{longest_line};
-    ghost use Rattle.steps_lines.specs.LineSessions.{fresh_session};
-    ghost use Rattle.steps_lines.specs.Standing.{StandsFor};
-    ghost use Rattle.steps_io.specs.Carried.{Carried, CarriedFront, CarriedSome, CarriedAll};
-    ghost use Rattle.steps_io.specs.Streams.{Written, ReadFront, Streamed, AnsweredAll};
-
-    // The replies that wait are written, and none waits.
-    #[tactic(auto, using(crate::specs::CarriedLaws::replies_written))]
-    fn write_replies(&mut self) -> io::Result<()>
-        ensures same_table { self.new.progress.table.ghost_name ≡ self.old.progress.table.ghost_name }
-        ensures ready { self.new.progress.replies.bytes ≡ [] }
-        ensures carried { Carried self.old.progress [] self.new.progress }
-        ensures written { OnOk result (Appends (W.contents self.old.sink) (W.contents self.new.sink) self.old.progress.replies.bytes) }
-    {
-        let written = self
-            .sink
-            .write_all(self.progress.replies.as_str().as_bytes());
-        self.progress.replies.clear();
-        written
+// The bytes of one read are answered, as many at a time as their replies have room for, which are then written.
+fn take_input<W: Write, const BYTES: usize>(
+    progress: &mut Progress<'_, BYTES>,
+    sink: &mut W,
+    input: &[u8],
+) -> io::Result<()>
+    requires room { longest_line ≤ BYTES }
+    requires ready { progress.old.replies.bytes ≡ [] }
+    ensures same_table { progress.new.table.ghost_name ≡ progress.old.table.ghost_name }
+    ensures ready { progress.new.replies.bytes ≡ [] }
+    ensures all { OnOk result (Carried progress.old input.now progress.new) }
+    ensures front { OnErr result (CarriedFront progress.old input.now progress.new) }
+    ensures written { OnOk result (Written progress.old (W.contents sink.old) input.now (W.contents sink.new)) }
+{
+    let mut rest = input;
+    while !rest.is_empty() {
+        let count = progress.take_bytes(rest);
+        write_replies(progress, sink)?;
+        rest = &rest[count..];
     }
-
-    // The bytes of one read are answered, as many at a time as their replies have room for, which are then written.
-    fn take_input(&mut self, input: &[u8]) -> io::Result<()>
-        requires room { longest_line ≤ BYTES }
-        requires ready { self.old.progress.replies.bytes ≡ [] }
-        ensures same_table { self.new.progress.table.ghost_name ≡ self.old.progress.table.ghost_name }
-        ensures ready { self.new.progress.replies.bytes ≡ [] }
-        ensures all { OnOk result (Carried self.old.progress input.now self.new.progress) }
-        ensures front { OnErr result (CarriedFront self.old.progress input.now self.new.progress) }
-        ensures written { OnOk result (Written self.old.progress (W.contents self.old.sink) input.now (W.contents self.new.sink)) }
-    {
-        let mut rest = input;
-        while !rest.is_empty() {
-            let count = self.progress.take_bytes(rest);
-            self.write_replies()?;
-            rest = &rest[count..];
-        }
-        Ok(())
-    }
-
-    // One read, into the lent input: what it gave is answered, or a front of it where a write fails. A failed read gives nothing, as
-    // one at the end.
-    fn take_some<R: Read>(&mut self, source: &mut R, input: &mut [u8]) -> io::Result<usize>
-        requires room { longest_line ≤ BYTES }
-        requires ready { self.old.progress.replies.bytes ≡ [] }
-        ensures same_table { self.new.progress.table.ghost_name ≡ self.old.progress.table.ghost_name }
-        ensures ready { self.new.progress.replies.bytes ≡ [] }
-        ensures all { IfOk result (λ got. Carried self.old.progress (take got input.new) self.new.progress) }
-        ensures front { OnErr result (ReadFront self.old.progress (R.remaining source.old) input.new self.new.progress (R.remaining source.new)) }
-        ensures written { IfOk result (λ got. Written self.old.progress (W.contents self.old.sink) (take got input.new)
-            (W.contents self.new.sink)) }
-        ensures read { IfOk result (λ got. Consumes (R.remaining source.old) (R.remaining source.new) (take got input.new)) }
-    {
-        let got = source.read(input).unwrap_or(0);
-        self.take_input(&input[..got])?;
-        Ok(got)
-    }
-
-    // Reads until one gives nothing. A proved loop has to end, and nothing says that the input does: no input has so many bytes.
-    #[tactic(auto, using(crate::specs::StreamLaws::read_by_read))]
-    fn take_all<R: Read>(&mut self, source: &mut R, input: &mut [u8]) -> io::Result<()>
-        requires room { longest_line ≤ BYTES }
-        requires ready { self.old.progress.replies.bytes ≡ [] }
-        ensures same_table { self.new.progress.table.ghost_name ≡ self.old.progress.table.ghost_name }
-        ensures ready { self.new.progress.replies.bytes ≡ [] }
-        ensures carried { CarriedSome self.old.progress self.new.progress }
-        ensures streamed { OnOk result (Streamed self.old.progress (R.remaining source.old) (W.contents self.old.sink)
-            self.new.progress (R.remaining source.new) (W.contents self.new.sink)) }
-    {
-        for _ in 0..u64::MAX {
-            if self.take_some(source, input)? == 0 {
-                return Ok(());
-            }
-        }
-        Ok(())
-    }
-
-    // All lines; the last one where all replies before it were written.
-    #[tactic(auto, using(crate::specs::StreamLaws::over_all))]
-    fn answer_all<R: Read>(&mut self, source: &mut R, input: &mut [u8]) -> io::Result<()>
-        requires room { longest_line ≤ BYTES }
-        requires ready { self.old.progress.replies.bytes ≡ [] }
-        ensures same_table { self.new.progress.table.ghost_name ≡ self.old.progress.table.ghost_name }
-        ensures carried { (t : List ℤ) → StandsFor (fresh_session t) self.old.progress → CarriedAll t self.new.progress.table.now }
-        ensures answered { OnOk result ((t : List ℤ) → StandsFor (fresh_session t) self.old.progress
-            → AnsweredAll t (R.remaining source.old) (W.contents self.old.sink) self.new.progress.table.now
-            (R.remaining source.new) (W.contents self.new.sink)) }
-    {
-        self.take_all(source, input)?;
-        self.progress.end_last();
-        self.write_replies()
-    }
+    Ok(())
 }
 
-// From a fresh start, the whole of standard input. A write that fails ends it.
+// One read, into the lent input: what it gave is answered, or a front of it where a write fails. A failed read gives nothing, as one
+// at the end.
+fn take_some<R: Read, W: Write, const BYTES: usize>(
+    progress: &mut Progress<'_, BYTES>,
+    source: &mut R,
+    sink: &mut W,
+    input: &mut [u8],
+) -> io::Result<usize>
+    requires room { longest_line ≤ BYTES }
+    requires ready { progress.old.replies.bytes ≡ [] }
+    ensures same_table { progress.new.table.ghost_name ≡ progress.old.table.ghost_name }
+    ensures ready { progress.new.replies.bytes ≡ [] }
+    ensures all { IfOk result (λ got. Carried progress.old (take got input.new) progress.new) }
+    ensures front { OnErr result (ReadFront progress.old (R.remaining source.old) input.new progress.new (R.remaining source.new)) }
+    ensures written { IfOk result (λ got. Written progress.old (W.contents sink.old) (take got input.new) (W.contents sink.new)) }
+    ensures read { IfOk result (λ got. Consumes (R.remaining source.old) (R.remaining source.new) (take got input.new)) }
+{
+    let got = source.read(input).unwrap_or(0);
+    take_input(progress, sink, &input[..got])?;
+    Ok(got)
+}
+
+// Reads until one gives nothing. A proved loop has to end, and nothing says that the input does: no input has so many bytes.
+#[tactic(auto, using(crate::specs::StreamLaws::read_by_read))]
+fn take_all<R: Read, W: Write, const BYTES: usize>(
+    progress: &mut Progress<'_, BYTES>,
+    source: &mut R,
+    sink: &mut W,
+    input: &mut [u8],
+) -> io::Result<()>
+    requires room { longest_line ≤ BYTES }
+    requires ready { progress.old.replies.bytes ≡ [] }
+    ensures same_table { progress.new.table.ghost_name ≡ progress.old.table.ghost_name }
+    ensures ready { progress.new.replies.bytes ≡ [] }
+    ensures carried { CarriedSome progress.old progress.new }
+    ensures streamed { OnOk result (Streamed progress.old (R.remaining source.old) (W.contents sink.old)
+        progress.new (R.remaining source.new) (W.contents sink.new)) }
+{
+    for _ in 0..u64::MAX {
+        if take_some(progress, source, sink, input)? == 0 {
+            return Ok(());
+        }
+    }
+    Ok(())
+}
+
+// The last line, where all replies before it were written; where a write failed, the table stays as it is.
+#[tactic(auto, using(crate::specs::StreamLaws::over_last))]
+fn take_last<W: Write, const BYTES: usize>(
+    progress: &mut Progress<'_, BYTES>,
+    sink: &mut W,
+    all: io::Result<()>,
+) -> io::Result<()>
+    requires room { longest_line ≤ BYTES }
+    requires ready { progress.old.replies.bytes ≡ [] }
+    ensures same_table { progress.new.table.ghost_name ≡ progress.old.table.ghost_name }
+    ensures carried { CarriedLast progress.old (is_ok all) progress.new.table.now }
+    ensures all_taken { OnOk result (IsOk all) }
+    ensures written { OnOk result (WrittenLast progress.old (W.contents sink.old) (W.contents sink.new)) }
+{
+    all?;
+    progress.end_last();
+    write_replies(progress, sink)
+}
+
+// From a fresh start, all lines, over what is lent; the last one where all replies before it were written.
+fn answer_all<R: Read, W: Write>(
+    source: &mut R,
+    sink: &mut W,
+    table: &mut [i64],
+    input: &mut [u8],
+) -> io::Result<()>
+    ensures carried { CarriedAll table.old table.new }
+    ensures answered { OnOk result (AnsweredAll table.old (R.remaining source.old) (W.contents sink.old)
+        table.new (R.remaining source.new) (W.contents sink.new)) }
+{
+    let mut progress = Progress::<REPLY_BYTES>::fresh(table);
+    let all = take_all(&mut progress, source, sink, input);
+    take_last(&mut progress, sink, all)
+}
+
+// The whole of standard input. A write that fails ends it.
 pub fn run(rt: &(impl Input + Print)) {
     let mut table = [0; TABLE_WORDS];
     let mut input = [0; INPUT_BYTES];
-    let mut steps = Steps::<_, REPLY_BYTES> {
-        sink: io::writer(rt),
-        progress: Progress::fresh(&mut table),
-    };
-    let _ = steps.answer_all(&mut rt.reader(), &mut input);
+    let _ = answer_all(
+        &mut rt.reader(),
+        &mut io::writer(rt),
+        &mut table,
+        &mut input,
+    );
 }

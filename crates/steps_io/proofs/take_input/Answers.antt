@@ -1,10 +1,10 @@
--- `steps_io::Steps::take_input`: before the loop no byte is handed on (`carried_none`), and a turn carries the session on over the bytes
+-- `steps_io::take_input`: before the loop no byte is handed on (`carried_none`), and a turn carries the session on over the bytes
 -- that it takes, of which there is at least one (`carried_on`). Assumes nothing.
 use Rattle.std.proofs.Common.{[], ◌∙◌, ◌++◌, take, refl, rules}
 use borrow.Author.Rules.{part_to_end}
 use Rattle.steps_io.specs.CarriedLaws.{carried_none, taken_and_written, carried_on, front_of, part_over}
 use Rattle.steps_io.specs.StreamLaws.{none_written, replies_out, written_on}
-use Rattle.steps_io.proofs.Steps.take_input.Goals as goal
+use Rattle.steps_io.proofs.take_input.Goals as goal
 
 pub loop-rest-init : goal.loop-rest-init
 loop-rest-init g c = record { front = []; whole = refl; same = refl; ready = c.requires.ready; carried = carried_none c.requires.ready; written = none_written _ c.requires.ready }
