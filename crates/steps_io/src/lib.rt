@@ -128,6 +128,7 @@ fn take_last<W: Write, const BYTES: usize>(
 }
 
 // From a fresh start, all lines, over what is lent; the last one where all replies before it were written.
+#[tactic(auto, using(crate::specs::StreamLaws::all_answered))]
 fn answer_all<R: Read, W: Write>(
     source: &mut R,
     sink: &mut W,

@@ -1,14 +1,8 @@
 -- `steps_io::answer_all`: the fresh session stands at first, and is carried over all reads and then over the last line
--- (`all_carried`), with what was answered to both written (`all_answered`). Assumes nothing.
+-- (`all_carried`). Assumes nothing.
 use Rattle.std.proofs.Common.{rules}
 use Rattle.steps_io.specs.CarriedLaws.{all_carried}
-use Rattle.steps_io.specs.StreamLaws.{all_answered}
 use Rattle.steps_io.proofs.answer_all.Goals as goal
 
 pub returns-clause-carried : goal.returns-clause-carried
 returns-clause-carried g c = all_carried c.fresh-progress.ensures.stands_for c.take_all-all.ensures.carried c.take_last.ensures.carried (search rules)
-
-pub returns-clause-answered : goal.returns-clause-answered
-returns-clause-answered g c =
-    all_answered _ _ _ _ _ c.take_all-all.result c.take_last.result c.fresh-progress.ensures.stands_for c.take_all-all.ensures.streamed c.take_last.ensures.carried
-    c.take_last.ensures.all_taken c.take_last.ensures.written (search rules)
