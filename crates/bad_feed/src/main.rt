@@ -41,11 +41,7 @@ fn say_store(
 }
 
 // Version 2: three stores.
-fn open_stores(
-    rt: &impl Print,
-    table: &mut [i64],
-    versions: &mut VersionRecord,
-) -> io::Result<()> {
+fn open_stores(rt: &impl Print, table: &mut [i64], versions: &mut VersionRecord) -> io::Result<()> {
     reader::begin(versions).map_err(refused)?;
     reader::put(table, *versions, REGION, 1, 400, 0).map_err(refused)?;
     reader::put(table, *versions, REGION, 2, 250, 0).map_err(refused)?;
