@@ -13,30 +13,31 @@ use Rattle.steps_io.specs.Carried.{Carried, CarriedFront, CarriedSome, CarriedLa
 
 module _ {most : ℕ} {p : Progress most} where
   -- the replies are written, and none waits
-  pub replies_written : (replies : ArrayString) → replies.bytes ≡ []
-      → Carried p [] (record { table = p.table; versions = p.versions; line = p.line; replies = replies })
-  replies_written replies e = record {
+  pub replies_written : (t : List ℤ) (replies : ArrayString) → replies.bytes ≡ []
+      → Carried t p [] t (record { versions = p.versions; line = p.line; replies = replies })
+  replies_written t replies e = record {
     stands = λ s w. rw (no_bytes s) (record { words = w.words; versions = w.versions; line = w.line; output = e });
   }
 
-  pub carried_none : p.replies.bytes ≡ [] → Carried p [] p
-  carried_none = replies_written p.replies
+  pub carried_none : (t : List ℤ) → p.replies.bytes ≡ [] → Carried t p [] t p
+  carried_none t = replies_written t p.replies
 
-  module _ {p' p'' : Progress most} where
+  module _ {t t' t'' : List ℤ} {p' p'' : Progress most} where
     -- bytes are taken, and their replies written
-    pub taken_and_written : (bytes : List ℕ) → ((s : LineSession) → StandsFor s p → StandsFor (after_bytes s bytes) p') → Carried p' [] p''
-        → Carried p bytes p''
+    pub taken_and_written : (bytes : List ℕ) → ((s : LineSession) → StandsFor s t p → StandsFor (after_bytes s bytes) t' p') → Carried t' p' [] t'' p''
+        → Carried t p bytes t'' p''
     taken_and_written bytes taken out = record { stands = λ s w. rw (no_bytes (after_bytes s bytes)) at (out.stands _ (taken s w)) }
 
-    pub carried_on : (front rest : List ℕ) → Carried p front p' → Carried p' rest p'' → Carried p (front ++ rest) p''
+    pub carried_on : (front rest : List ℕ) → Carried t p front t' p' → Carried t' p' rest t'' p'' → Carried t p (front ++ rest) t'' p''
     carried_on front rest a b = record { stands = λ s w. rw (written_between s front rest) at (b.stands _ (a.stands s w)) }
 
     -- and one read more
-    pub some_on : (bytes : List ℕ) → CarriedSome p p' → Carried p' bytes p'' → CarriedSome p p''
+    pub some_on : (bytes : List ℕ) → CarriedSome t p t' p' → Carried t' p' bytes t'' p'' → CarriedSome t p t'' p''
     some_on bytes a b = record { bytes = a.bytes ++ bytes; carried = carried_on a.bytes bytes a.carried b }
 
   -- a front of some input, where a write failed
-  pub front_of : {p' : Progress most} {input : List ℕ} (front rest : List ℕ) → input ≡ front ++ rest → Carried p front p' → CarriedFront p input p'
+  pub front_of : {t t' : List ℤ} {p' : Progress most} {input : List ℕ} (front rest : List ℕ) → input ≡ front ++ rest → Carried t p front t' p'
+      → CarriedFront t p input t' p'
   front_of front rest e a = record { count = length front; carried = rw (e, take-append_seam front rest) a }
 
 -- a part of what is left goes over to what was handed on
@@ -46,23 +47,23 @@ part_over input front rest count e =
 
 -- ---- the last line was answered, and its reply written
 module _ {most : ℕ} {p : Progress most} where
-  pub last_carried : {last end : Progress most} → ((s : LineSession) → StandsFor s p → StandsFor (finished s) last) → Carried last [] end
-      → CarriedLast p true end.table.now
-  last_carried finish out = record { words = λ s w. rw (no_bytes (finished s)) at ((out.stands _ (finish s w)).words) }
+  pub last_carried : {t t' : List ℤ} {last end : Progress most} → ((s : LineSession) → StandsFor s t p → StandsFor (finished s) t' last)
+      → ((u : List ℤ) → Carried u last [] u end) → CarriedLast t p true t'
+  last_carried {t' = t'} finish out = record { words = λ s w. rw (no_bytes (finished s)) at (((out t').stands _ (finish s w)).words) }
 
   -- or a write failed before
-  pub cut_off : CarriedLast p false p.table.now
-  cut_off = record { words = λ s w. w.words }
+  pub cut_off : (t : List ℤ) → CarriedLast t p false t
+  cut_off t = record { words = λ s w. w.words }
 
 -- at the end it is as if the replies had not been written out
 at_end_lem : (taken : Bool) (s : LineSession) → (at_end taken (written_out s)).words ≡ (at_end taken s).words
 at_end_lem true s = ap (λ u. u.words) (written_last s)
 at_end_lem false s = refl
 
-pub all_carried : {most : ℕ} {t t' t'' : List ℤ} {p p' : Progress most} {taken : Bool} → StandsFor (fresh_session t) p → CarriedSome p p'
-    → CarriedLast p' taken t' → t'' ≡ t' → CarriedAll t t''
-all_carried {t} {taken = taken} w a last e = record {
+pub all_carried : {most : ℕ} {t t' t'' : List ℤ} {p p' : Progress most} {taken : Bool} → StandsFor (fresh_session t) t p → CarriedSome t p t' p'
+    → CarriedLast t' p' taken t'' → CarriedAll t t''
+all_carried {t} {taken = taken} w a last = record {
   bytes = a.bytes;
   taken = taken;
-  words = e ∙ last.words _ (a.carried.stands _ w) ∙ at_end_lem taken (after_bytes (fresh_session t) a.bytes);
+  words = last.words _ (a.carried.stands _ w) ∙ at_end_lem taken (after_bytes (fresh_session t) a.bytes);
 }

@@ -6,7 +6,7 @@
 // the standard streams: which bytes `read` gives, and that `write_all` writes what it is handed.
 #![tactic(auto)]
 
-ghost use Rattle.std.specs.Prelude.{◌≡◌, ◌≤◌, [], take, is_ok, IsOk, IfOk, OnOk, OnErr};
+ghost use Rattle.std.specs.Prelude.{◌≡◌, List, [], ◌≤◌, ℤ, take, is_ok, IsOk, IfOk, OnOk, OnErr};
 ghost use Rattle.std.specs.Io.KnownBytes.{Appends, Consumes};
 ghost use Rattle.steps_replies.specs.Written.{longest_line};
 ghost use Rattle.steps_io.specs.Carried.{Carried, CarriedFront, CarriedSome, CarriedLast, CarriedAll};
@@ -26,12 +26,11 @@ const INPUT_BYTES: usize = 65536;
 // The replies that wait are written, and none waits.
 #[tactic(auto, using(crate::specs::CarriedLaws::replies_written))]
 fn write_replies<W: Write, const BYTES: usize>(
-    progress: &mut Progress<'_, BYTES>,
+    progress: &mut Progress<BYTES>,
     sink: &mut W,
 ) -> io::Result<()>
-    ensures same_table { progress.new.table.ghost_name ≡ progress.old.table.ghost_name }
     ensures ready { progress.new.replies.bytes ≡ [] }
-    ensures carried { Carried progress.old [] progress.new }
+    ensures carried { (t : List ℤ) → Carried t progress.old [] t progress.new }
     ensures written { OnOk result (Appends (W.contents sink.old) (W.contents sink.new) progress.old.replies.bytes) }
 {
     let written = sink.write_all(progress.replies.as_str().as_bytes());
@@ -41,21 +40,21 @@ fn write_replies<W: Write, const BYTES: usize>(
 
 // The bytes of one read are answered, as many at a time as their replies have room for, which are then written.
 fn take_input<W: Write, const BYTES: usize>(
-    progress: &mut Progress<'_, BYTES>,
+    progress: &mut Progress<BYTES>,
+    table: &mut [i64],
     sink: &mut W,
     input: &[u8],
 ) -> io::Result<()>
     requires room { longest_line ≤ BYTES }
     requires ready { progress.old.replies.bytes ≡ [] }
-    ensures same_table { progress.new.table.ghost_name ≡ progress.old.table.ghost_name }
     ensures ready { progress.new.replies.bytes ≡ [] }
-    ensures all { OnOk result (Carried progress.old input.now progress.new) }
-    ensures front { OnErr result (CarriedFront progress.old input.now progress.new) }
-    ensures written { OnOk result (Written progress.old (W.contents sink.old) input.now (W.contents sink.new)) }
+    ensures all { OnOk result (Carried table.old progress.old input.now table.new progress.new) }
+    ensures front { OnErr result (CarriedFront table.old progress.old input.now table.new progress.new) }
+    ensures written { OnOk result (Written table.old progress.old (W.contents sink.old) input.now (W.contents sink.new)) }
 {
     let mut rest = input;
     while !rest.is_empty() {
-        let count = progress.take_bytes(rest);
+        let count = progress.take_bytes(table, rest);
         write_replies(progress, sink)?;
         rest = &rest[count..];
     }
@@ -65,43 +64,43 @@ fn take_input<W: Write, const BYTES: usize>(
 // One read, into the lent input: what it gave is answered, or a front of it where a write fails. A failed read gives nothing, as one
 // at the end.
 fn take_some<R: Read, W: Write, const BYTES: usize>(
-    progress: &mut Progress<'_, BYTES>,
+    progress: &mut Progress<BYTES>,
+    table: &mut [i64],
     source: &mut R,
     sink: &mut W,
     input: &mut [u8],
 ) -> io::Result<usize>
     requires room { longest_line ≤ BYTES }
     requires ready { progress.old.replies.bytes ≡ [] }
-    ensures same_table { progress.new.table.ghost_name ≡ progress.old.table.ghost_name }
     ensures ready { progress.new.replies.bytes ≡ [] }
-    ensures all { IfOk result (λ got. Carried progress.old (take got input.new) progress.new) }
-    ensures front { OnErr result (ReadFront progress.old (R.remaining source.old) input.new progress.new (R.remaining source.new)) }
-    ensures written { IfOk result (λ got. Written progress.old (W.contents sink.old) (take got input.new) (W.contents sink.new)) }
+    ensures all { IfOk result (λ got. Carried table.old progress.old (take got input.new) table.new progress.new) }
+    ensures front { OnErr result (ReadFront table.old progress.old (R.remaining source.old) input.new table.new progress.new (R.remaining source.new)) }
+    ensures written { IfOk result (λ got. Written table.old progress.old (W.contents sink.old) (take got input.new) (W.contents sink.new)) }
     ensures read { IfOk result (λ got. Consumes (R.remaining source.old) (R.remaining source.new) (take got input.new)) }
 {
     let got = source.read(input).unwrap_or(0);
-    take_input(progress, sink, &input[..got])?;
+    take_input(progress, table, sink, &input[..got])?;
     Ok(got)
 }
 
 // Reads until one gives nothing. A proved loop has to end, and nothing says that the input does: no input has so many bytes.
 #[tactic(auto, using(crate::specs::StreamLaws::read_by_read))]
 fn take_all<R: Read, W: Write, const BYTES: usize>(
-    progress: &mut Progress<'_, BYTES>,
+    progress: &mut Progress<BYTES>,
+    table: &mut [i64],
     source: &mut R,
     sink: &mut W,
     input: &mut [u8],
 ) -> io::Result<()>
     requires room { longest_line ≤ BYTES }
     requires ready { progress.old.replies.bytes ≡ [] }
-    ensures same_table { progress.new.table.ghost_name ≡ progress.old.table.ghost_name }
     ensures ready { progress.new.replies.bytes ≡ [] }
-    ensures carried { CarriedSome progress.old progress.new }
-    ensures streamed { OnOk result (Streamed progress.old (R.remaining source.old) (W.contents sink.old)
-        progress.new (R.remaining source.new) (W.contents sink.new)) }
+    ensures carried { CarriedSome table.old progress.old table.new progress.new }
+    ensures streamed { OnOk result (Streamed table.old progress.old (R.remaining source.old) (W.contents sink.old)
+        table.new progress.new (R.remaining source.new) (W.contents sink.new)) }
 {
     for _ in 0..u64::MAX {
-        if take_some(progress, source, sink, input)? == 0 {
+        if take_some(progress, table, source, sink, input)? == 0 {
             return Ok(());
         }
     }
@@ -111,19 +110,19 @@ fn take_all<R: Read, W: Write, const BYTES: usize>(
 // The last line, where all replies before it were written; where a write failed, the table stays as it is.
 #[tactic(auto, using(crate::specs::StreamLaws::over_last))]
 fn take_last<W: Write, const BYTES: usize>(
-    progress: &mut Progress<'_, BYTES>,
+    progress: &mut Progress<BYTES>,
+    table: &mut [i64],
     sink: &mut W,
     all: io::Result<()>,
 ) -> io::Result<()>
     requires room { longest_line ≤ BYTES }
     requires ready { progress.old.replies.bytes ≡ [] }
-    ensures same_table { progress.new.table.ghost_name ≡ progress.old.table.ghost_name }
-    ensures carried { CarriedLast progress.old (is_ok all) progress.new.table.now }
+    ensures carried { CarriedLast table.old progress.old (is_ok all) table.new }
     ensures all_taken { OnOk result (IsOk all) }
-    ensures written { OnOk result (WrittenLast progress.old (W.contents sink.old) (W.contents sink.new)) }
+    ensures written { OnOk result (WrittenLast table.old progress.old (W.contents sink.old) (W.contents sink.new)) }
 {
     all?;
-    progress.end_last();
+    progress.end_last(table);
     write_replies(progress, sink)
 }
 
@@ -139,9 +138,9 @@ fn answer_all<R: Read, W: Write>(
     ensures answered { OnOk result (AnsweredAll table.old (R.remaining source.old) (W.contents sink.old)
         table.new (R.remaining source.new) (W.contents sink.new)) }
 {
-    let mut progress = Progress::<REPLY_BYTES>::fresh(table);
-    let all = take_all(&mut progress, source, sink, input);
-    take_last(&mut progress, sink, all)
+    let mut progress = Progress::<REPLY_BYTES>::fresh();
+    let all = take_all(&mut progress, table, source, sink, input);
+    take_last(&mut progress, table, sink, all)
 }
 
 // The whole of standard input. A write that fails ends it.

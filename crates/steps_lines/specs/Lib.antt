@@ -1,4 +1,5 @@
 pub mod LineSessions
+pub mod Kept
 pub mod Standing
 pub mod LineSessionLaws
 pub mod StandingLaws

@@ -1,6 +1,6 @@
 -- How a session stands in memory: the lent table's words, the record, the line as far as its bytes tell what it asks, and the replies
 -- that wait. Assumes nothing.
-use Rattle.std.specs.Prelude.{◌≡◌, ℕ, ◌+◌, take}
+use Rattle.std.specs.Prelude.{◌≡◌, List, ℕ, ◌+◌, ℤ, take}
 use Rattle.steps_commands.specs.Longest.{longest_command}
 use Rattle.steps_lines.specs.declared.Progress.{Progress}
 use Rattle.steps_lines.specs.LineSessions.{LineSession}
@@ -9,8 +9,9 @@ use Rattle.steps_lines.specs.LineSessions.{LineSession}
 abbrev pub line_bytes : ℕ
 line_bytes = longest_command + 1
 
-pub record StandsFor {most : ℕ} (s : LineSession) (p : Progress most) : Type 0 where
-  pub words : p.table.now ≡ s.words
+-- s stands in a table t and what is kept beside it
+pub record StandsFor {most : ℕ} (s : LineSession) (t : List ℤ) (p : Progress most) : Type 0 where
+  pub words : t ≡ s.words
   pub versions : p.versions ≡ s.versions
   pub line : p.line.items ≡ take line_bytes s.line
   pub output : p.replies.bytes ≡ s.output

@@ -1,12 +1,10 @@
 -- How a session goes on standing in memory. A byte that is kept lengthens what is kept as it lengthens the line, up to the bytes
 -- that tell what a line asks; past them neither grows. A line that is answered from what is kept is answered as it is, since
 -- those bytes tell what it asks, and its reply stands behind those that wait. Assumes nothing.
-use Rattle.std.specs.Borrow.{MutBor}
 use Rattle.std.specs.Prelude.{◌≡◌, refl, List, [], ◌∷◌, ◌++◌, ℕ, ◌+◌, ◌≤◌, ◌<◌, ℤ, length, take}
 use Rattle.std.proofs.Common.{sym, ap, ◌∙◌, arith, length-append, take_all, length-take-le}
 use Rattle.std.proofs.lemmas.List.{take-append-le}
 use Rattle.laws.specs.TestLaws.{by_order}
-use Rattle.arrayvec.specs.ArrayVec.{ArrayVec}
 use Rattle.arrayvec.specs.ArrayString.{ArrayString}
 use Rattle.versions.specs.declared.VersionRecord.{VersionRecord}
 use Rattle.steps_commands.specs.Commands.{asked}
@@ -15,6 +13,7 @@ use Rattle.steps_replies.specs.Written.{longest_line}
 use Rattle.steps_replies.specs.OutputLaws.{up_to}
 use Rattle.steps_answers.specs.Answers.{Answered}
 use Rattle.steps_lines.specs.declared.Progress.{Progress}
+use Rattle.steps_lines.specs.Kept.{Kept}
 use Rattle.steps_lines.specs.LineSessions.{LineSession, ended, longer, finished}
 use Rattle.steps_lines.specs.LineSessionLaws.{no_last, a_last}
 use Rattle.steps_lines.specs.Standing.{line_bytes, StandsFor}
@@ -27,10 +26,10 @@ by_length line kept e short long =
     (λ l. long (ap length e ∙ length-take-le line_bytes line (omega arith)) l)
     (λ l. short (e ∙ take_all line_bytes line l) l)
 
-module _ {most : ℕ} {s : LineSession} {p : Progress most} (w : StandsFor s p) where
+module _ {most : ℕ} {s : LineSession} {t : List ℤ} {p : Progress most} (w : StandsFor s t p) where
   -- ---- a byte of a line
-  pub stands_longer : (b : ℕ) (line : ArrayVec ℕ) → length p.line.items < line_bytes → line.items ≡ p.line.items ++ (b ∷ [])
-      → StandsFor {most = most} (longer s b) (record { table = p.table; versions = p.versions; line = line; replies = p.replies })
+  pub stands_longer : (b : ℕ) (line : Kept) → length p.line.items < line_bytes → line.items ≡ p.line.items ++ (b ∷ [])
+      → StandsFor {most = most} (longer s b) t (record { versions = p.versions; line = line; replies = p.replies })
   stands_longer b line l e = record {
     words = w.words;
     versions = w.versions;
@@ -41,7 +40,7 @@ module _ {most : ℕ} {s : LineSession} {p : Progress most} (w : StandsFor s p) 
     output = w.output;
   }
 
-  pub stands_full : (b : ℕ) → length p.line.items ≡ line_bytes → StandsFor (longer s b) p
+  pub stands_full : (b : ℕ) → length p.line.items ≡ line_bytes → StandsFor (longer s b) t p
   stands_full b full = record {
     words = w.words;
     versions = w.versions;
@@ -52,9 +51,9 @@ module _ {most : ℕ} {s : LineSession} {p : Progress most} (w : StandsFor s p) 
   }
 
   -- ---- a line that ends
-  pub stands_ended : {t : MutBor (List ℤ)} {v : VersionRecord} {line : ArrayVec ℕ} {replies : ArrayString} → length p.replies.bytes + longest_line ≤ most
-      → Answered most p.table.now p.versions p.line.items p.replies.bytes t.now v replies.bytes → line.items ≡ []
-      → StandsFor {most = most} (ended s) (record { table = t; versions = v; line = line; replies = replies })
+  pub stands_ended : {t' : List ℤ} {v : VersionRecord} {line : Kept} {replies : ArrayString} → length p.replies.bytes + longest_line ≤ most
+      → Answered most t p.versions p.line.items p.replies.bytes t' v replies.bytes → line.items ≡ []
+      → StandsFor {most = most} (ended s) t' (record { versions = v; line = line; replies = replies })
   unfolding ended
   stands_ended room a empty =
       let tells : asked p.line.items ≡ asked s.line = ap asked w.line ∙ long.kept s.line in

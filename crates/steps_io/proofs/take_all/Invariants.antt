@@ -1,5 +1,5 @@
--- `steps_io::take_all`: the loop's invariant is that the lent table is the same, that no reply waits, and that a session that
--- stood stands where the bytes of the reads so far have led it, with what was answered to them written. Assumes nothing.
+-- `steps_io::take_all`: the loop's invariant is that no reply waits, and that a session that stood stands where the bytes of the
+-- reads so far have led it, with what was answered to them written. Assumes nothing.
 use Rattle.std.proofs.Common.{◌≡◌, []}
 use Rattle.steps_io.specs.Carried.{CarriedSome}
 use Rattle.steps_io.specs.Streams.{Streamed}
@@ -7,9 +7,8 @@ use Rattle.steps_io.proofs.take_all.Given as goal
 
 abbrev pub invariant-loop : goal.invariant-loop
 invariant-loop g l = record {
-  same : l.progress.table.ghost_name ≡ l.fn.progress.table.ghost_name;
   ready : l.progress.replies.bytes ≡ [];
-  carried : CarriedSome l.fn.progress l.progress;
-  streamed : Streamed l.fn.progress (g.R.Read.remaining l.fn.source) (g.W.Write.contents l.fn.sink)
-      l.progress (g.R.Read.remaining l.source) (g.W.Write.contents l.sink);
+  carried : CarriedSome l.fn.table l.fn.progress l.table l.progress;
+  streamed : Streamed l.fn.table l.fn.progress (g.R.Read.remaining l.fn.source) (g.W.Write.contents l.fn.sink)
+      l.table l.progress (g.R.Read.remaining l.source) (g.W.Write.contents l.sink);
 }

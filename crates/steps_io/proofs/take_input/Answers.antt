@@ -1,18 +1,18 @@
 -- `steps_io::take_input`: before the loop no byte is handed on (`carried_none`), and a turn carries the session on over the bytes
 -- that it takes, of which there is at least one (`carried_on`). Assumes nothing.
-use Rattle.std.proofs.Common.{[], ◌∙◌, ◌++◌, take, refl, rules}
+use Rattle.std.proofs.Common.{[], ◌++◌, take, refl, rules}
 use borrow.Author.Rules.{part_to_end}
 use Rattle.steps_io.specs.CarriedLaws.{carried_none, taken_and_written, carried_on, front_of, part_over}
 use Rattle.steps_io.specs.StreamLaws.{none_written, replies_out, written_on}
 use Rattle.steps_io.proofs.take_input.Goals as goal
 
 pub loop-rest-init : goal.loop-rest-init
-loop-rest-init g c = record { front = []; whole = refl; same = refl; ready = c.requires.ready; carried = carried_none c.requires.ready; written = none_written _ c.requires.ready }
+loop-rest-init g c = record { front = []; whole = refl; ready = c.requires.ready; carried = carried_none _ c.requires.ready; written = none_written _ c.requires.ready }
 
 pub returns-in_err-write_replies-clause-front : goal.returns-in_err-write_replies-clause-front
 returns-in_err-write_replies-clause-front g c =
     let part = take c.take_bytes-count.result c.loop-rest.rest.now in
-    let turn = taken_and_written part c.take_bytes-count.ensures.stands_for c.write_replies.ensures.carried in
+    let turn = taken_and_written part c.take_bytes-count.ensures.stands_for (c.write_replies.ensures.carried _) in
     let whole = part_over c.args.input.now c.loop-rest.invariant.front c.loop-rest.rest.now c.take_bytes-count.result c.loop-rest.invariant.whole in
     let front = front_of _ _ whole (carried_on c.loop-rest.invariant.front part c.loop-rest.invariant.carried turn) in
     search rules
@@ -20,11 +20,10 @@ returns-in_err-write_replies-clause-front g c =
 pub loop-rest-preserved : goal.loop-rest-preserved
 loop-rest-preserved g c =
     let part = take c.take_bytes-count.result c.loop-rest.rest.now in
-    let turn = taken_and_written part c.take_bytes-count.ensures.stands_for c.write_replies.ensures.carried in
+    let turn = taken_and_written part c.take_bytes-count.ensures.stands_for (c.write_replies.ensures.carried _) in
     record {
       front = c.loop-rest.invariant.front ++ part;
       whole = rw part_to_end (part_over _ _ c.loop-rest.rest.now c.take_bytes-count.result c.loop-rest.invariant.whole);
-      same = c.write_replies.ensures.same_table ∙ c.take_bytes-count.ensures.same_table ∙ c.loop-rest.invariant.same;
       ready = c.write_replies.ensures.ready;
       carried = carried_on c.loop-rest.invariant.front part c.loop-rest.invariant.carried turn;
       written = written_on c.loop-rest.invariant.front part c.loop-rest.invariant.carried c.loop-rest.invariant.written

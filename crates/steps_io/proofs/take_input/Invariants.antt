@@ -1,6 +1,5 @@
 -- `steps_io::take_input`: the loop's invariant is that the bytes before `rest` are handed on, and a session that stood stands
--- where they led it, with no reply that waits and all of them written, over the same lent table. The measure is how many are
--- left. Assumes nothing.
+-- where they led it, with no reply that waits and all of them written. The measure is how many are left. Assumes nothing.
 use Rattle.std.proofs.Common.{◌≡◌, List, [], ◌++◌, ℕ, length}
 use Rattle.steps_io.specs.Carried.{Carried}
 use Rattle.steps_io.specs.Streams.{Written}
@@ -10,10 +9,9 @@ abbrev pub invariant-loop-rest : goal.invariant-loop-rest
 invariant-loop-rest g l = record {
   front : List ℕ;
   whole : l.input ≡ front ++ l.rest;
-  same : l.progress.table.ghost_name ≡ l.fn.progress.table.ghost_name;
   ready : l.progress.replies.bytes ≡ [];
-  carried : Carried l.fn.progress front l.progress;
-  written : Written l.fn.progress (g.W.Write.contents l.fn.sink) front (g.W.Write.contents l.sink);
+  carried : Carried l.fn.table l.fn.progress front l.table l.progress;
+  written : Written l.fn.table l.fn.progress (g.W.Write.contents l.fn.sink) front (g.W.Write.contents l.sink);
 }
 
 abbrev pub decreases-loop-rest : goal.decreases-loop-rest

@@ -1,5 +1,5 @@
--- `steps_lines::Progress::take_bytes`: the loop's invariant is that the lent table is the same and every session that stood stands
--- where the bytes so far have led it, with room for a line before the first, so that it is taken. Assumes nothing.
+-- `steps_lines::Progress::take_bytes`: the loop's invariant is that every session that stood stands where the bytes so far have led
+-- it, with room for a line before the first, so that it is taken. Assumes nothing.
 use Rattle.std.proofs.Common.{◌≡◌, ◌+◌, ◌≤◌, length, take}
 use Rattle.steps_replies.specs.Written.{longest_line}
 use Rattle.steps_lines.specs.LineSessions.{LineSession, after_bytes}
@@ -8,7 +8,6 @@ use Rattle.steps_lines.proofs.Progress.take_bytes.Given as goal
 
 abbrev pub invariant-loop-taken : goal.invariant-loop-taken
 invariant-loop-taken g l = record {
-  same : l.self.table.ghost_name ≡ l.fn.self.table.ghost_name;
   room : l.taken ≡ 0 → length l.self.replies.bytes + longest_line ≤ g.row.BYTES;
-  stands : (s : LineSession) → StandsFor s l.fn.self → StandsFor (after_bytes s (take l.taken l.input)) l.self;
+  stands : (s : LineSession) → StandsFor s l.fn.table l.fn.self → StandsFor (after_bytes s (take l.taken l.input)) l.table l.self;
 }
