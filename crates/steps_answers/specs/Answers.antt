@@ -9,7 +9,7 @@ use Rattle.steps_commands.specs.declared.Command.{Command}
 use Rattle.steps_commands.specs.declared.Command.TheVariants.{Begin, Commit, Put, Delete, Read}
 use Rattle.steps_commands.specs.Commands.{asked}
 use Rattle.steps_replies.specs.Replies.{version_line, slot_line, row_line, answer_line, bad_line}
-use Rattle.steps_replies.specs.Written.{written}
+use Rattle.steps_replies.specs.Written.{Written}
 
 -- B begin, C commit, P put, D delete, R read a key
 abbrev pub call_of : Command → Call
@@ -50,8 +50,8 @@ words_after command t v = (left_by command (lent t v)).words
 abbrev pub record_after : Option Command → List ℤ → VersionRecord → VersionRecord
 record_after command t v = (left_by command (lent t v)).versions
 
--- a line answered: what it asks is done, and the reply is written behind the lines that wait in a text of so many bytes
-pub record Answered (bytes : ℕ) (t : List ℤ) (v : VersionRecord) (line text : List ℕ) (t' : List ℤ) (v' : VersionRecord) (text' : List ℕ) : Type 0 where
+-- a line answered: what it asks is done, and the reply stands in the buffer
+pub record Answered (t : List ℤ) (v : VersionRecord) (line buffer : List ℕ) (place r : ℕ) (t' : List ℤ) (v' : VersionRecord) (buffer' : List ℕ) : Type 0 where
   pub words : t' ≡ words_after (asked line) t v
   pub versions : v' ≡ record_after (asked line) t v
-  pub replied : text' ≡ written bytes text (reply (asked line) t v)
+  pub replied : Written buffer place (reply (asked line) t v) r buffer'

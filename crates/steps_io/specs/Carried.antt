@@ -10,24 +10,24 @@ use Rattle.steps_lines.specs.Standing.{StandsFor}
 abbrev pub at_end : Bool → LineSession → LineSession
 at_end taken s = cond taken (finished s) s
 
-module _ {most : ℕ} (t : List ℤ) (p : Progress most) where
+module _ (t : List ℤ) (b : List ℕ) (p : Progress) where
   -- these bytes were handed on
-  pub record Carried (bytes : List ℕ) (t' : List ℤ) (p' : Progress most) : Type 0 where
-    pub stands : (s : LineSession) → StandsFor s t p → StandsFor (written_out (after_bytes s bytes)) t' p'
+  pub record Carried (bytes : List ℕ) (t' : List ℤ) (b' : List ℕ) (p' : Progress) : Type 0 where
+    pub stands : (s : LineSession) → StandsFor s t b p → StandsFor (written_out (after_bytes s bytes)) t' b' p'
 
   -- the front of input was handed on, where a write failed
-  pub record CarriedFront (input : List ℕ) (t' : List ℤ) (p' : Progress most) : Type 0 where
+  pub record CarriedFront (input : List ℕ) (t' : List ℤ) (b' : List ℕ) (p' : Progress) : Type 0 where
     pub count : ℕ
-    pub carried : Carried (take count input) t' p'
+    pub carried : Carried (take count input) t' b' p'
 
   -- some bytes were handed on, read after read
-  pub record CarriedSome (t' : List ℤ) (p' : Progress most) : Type 0 where
+  pub record CarriedSome (t' : List ℤ) (b' : List ℕ) (p' : Progress) : Type 0 where
     pub bytes : List ℕ
-    pub carried : Carried bytes t' p'
+    pub carried : Carried bytes t' b' p'
 
   -- the end: the last line was answered where every write before it was taken, and else the table stays as the session left it
   pub record CarriedLast (taken : Bool) (t' : List ℤ) : Type 0 where
-    pub words : (s : LineSession) → StandsFor s t p → t' ≡ (at_end taken s).words
+    pub words : (s : LineSession) → StandsFor s t b p → t' ≡ (at_end taken s).words
 
 -- from a fresh start: the table is left as some bytes lead it, to the end of the last line or to a write that failed
 pub record CarriedAll (t t' : List ℤ) : Type 0 where

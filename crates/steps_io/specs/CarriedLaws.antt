@@ -4,40 +4,38 @@ use Rattle.std.specs.Prelude.{◌≡◌, refl, Bool, true, false, List, [], ◌+
 use Rattle.std.proofs.Common.{ap, sym, ◌∙◌, append_assoc}
 use Rattle.std.proofs.lemmas.List.{take-append-drop}
 use Rattle.std.proofs.Math.Seq.{take-append_seam}
-use Rattle.arrayvec.specs.ArrayString.{ArrayString}
 use Rattle.steps_lines.specs.declared.Progress.{Progress}
 use Rattle.steps_lines.specs.LineSessions.{LineSession, fresh_session, written_out, after_bytes, finished}
 use Rattle.steps_lines.specs.LineSessionLaws.{no_bytes, written_between, written_last}
 use Rattle.steps_lines.specs.Standing.{StandsFor}
 use Rattle.steps_io.specs.Carried.{Carried, CarriedFront, CarriedSome, CarriedLast, CarriedAll, at_end}
 
-module _ {most : ℕ} {p : Progress most} where
+module _ {b : List ℕ} {p : Progress} where
   -- the replies are written, and none waits
-  pub replies_written : (t : List ℤ) (replies : ArrayString) → replies.bytes ≡ []
-      → Carried t p [] t (record { versions = p.versions; line = p.line; replies = replies })
-  replies_written t replies e = record {
-    stands = λ s w. rw (no_bytes s) (record { words = w.words; versions = w.versions; line = w.line; output = e });
+  pub replies_written : (t : List ℤ) (place : ℕ) → place ≡ 0 → Carried t b p [] t b (record { versions = p.versions; line = p.line; place = place })
+  replies_written t place e = record {
+    stands = λ s w. rw (no_bytes s) (record { words = w.words; versions = w.versions; line = w.line; output = ap (λ n. take n b) e });
   }
 
-  pub carried_none : (t : List ℤ) → p.replies.bytes ≡ [] → Carried t p [] t p
-  carried_none t = replies_written t p.replies
+  pub carried_none : (t : List ℤ) → p.place ≡ 0 → Carried t b p [] t b p
+  carried_none t = replies_written t p.place
 
-  module _ {t t' t'' : List ℤ} {p' p'' : Progress most} where
+  module _ {t t' t'' : List ℤ} {b' b'' : List ℕ} {p' p'' : Progress} where
     -- bytes are taken, and their replies written
-    pub taken_and_written : (bytes : List ℕ) → ((s : LineSession) → StandsFor s t p → StandsFor (after_bytes s bytes) t' p') → Carried t' p' [] t'' p''
-        → Carried t p bytes t'' p''
+    pub taken_and_written : (bytes : List ℕ) → ((s : LineSession) → StandsFor s t b p → StandsFor (after_bytes s bytes) t' b' p')
+        → Carried t' b' p' [] t'' b'' p'' → Carried t b p bytes t'' b'' p''
     taken_and_written bytes taken out = record { stands = λ s w. rw (no_bytes (after_bytes s bytes)) at (out.stands _ (taken s w)) }
 
-    pub carried_on : (front rest : List ℕ) → Carried t p front t' p' → Carried t' p' rest t'' p'' → Carried t p (front ++ rest) t'' p''
-    carried_on front rest a b = record { stands = λ s w. rw (written_between s front rest) at (b.stands _ (a.stands s w)) }
+    pub carried_on : (front rest : List ℕ) → Carried t b p front t' b' p' → Carried t' b' p' rest t'' b'' p'' → Carried t b p (front ++ rest) t'' b'' p''
+    carried_on front rest a c = record { stands = λ s w. rw (written_between s front rest) at (c.stands _ (a.stands s w)) }
 
     -- and one read more
-    pub some_on : (bytes : List ℕ) → CarriedSome t p t' p' → Carried t' p' bytes t'' p'' → CarriedSome t p t'' p''
-    some_on bytes a b = record { bytes = a.bytes ++ bytes; carried = carried_on a.bytes bytes a.carried b }
+    pub some_on : (bytes : List ℕ) → CarriedSome t b p t' b' p' → Carried t' b' p' bytes t'' b'' p'' → CarriedSome t b p t'' b'' p''
+    some_on bytes a c = record { bytes = a.bytes ++ bytes; carried = carried_on a.bytes bytes a.carried c }
 
   -- a front of some input, where a write failed
-  pub front_of : {t t' : List ℤ} {p' : Progress most} {input : List ℕ} (front rest : List ℕ) → input ≡ front ++ rest → Carried t p front t' p'
-      → CarriedFront t p input t' p'
+  pub front_of : {t t' : List ℤ} {b' : List ℕ} {p' : Progress} {input : List ℕ} (front rest : List ℕ) → input ≡ front ++ rest
+      → Carried t b p front t' b' p' → CarriedFront t b p input t' b' p'
   front_of front rest e a = record { count = length front; carried = rw (e, take-append_seam front rest) a }
 
 -- a part of what is left goes over to what was handed on
@@ -46,13 +44,13 @@ part_over input front rest count e =
     e ∙ ap (λ l. front ++ l) (sym (take-append-drop count rest)) ∙ sym (append_assoc front (take count rest) (drop count rest))
 
 -- ---- the last line was answered, and its reply written
-module _ {most : ℕ} {p : Progress most} where
-  pub last_carried : {t t' : List ℤ} {last end : Progress most} → ((s : LineSession) → StandsFor s t p → StandsFor (finished s) t' last)
-      → ((u : List ℤ) → Carried u last [] u end) → CarriedLast t p true t'
+module _ {b : List ℕ} {p : Progress} where
+  pub last_carried : {t t' : List ℤ} {b' b'' : List ℕ} {last end : Progress} → ((s : LineSession) → StandsFor s t b p → StandsFor (finished s) t' b' last)
+      → ((u : List ℤ) → Carried u b' last [] u b'' end) → CarriedLast t b p true t'
   last_carried {t' = t'} finish out = record { words = λ s w. rw (no_bytes (finished s)) at (((out t').stands _ (finish s w)).words) }
 
   -- or a write failed before
-  pub cut_off : (t : List ℤ) → CarriedLast t p false t
+  pub cut_off : (t : List ℤ) → CarriedLast t b p false t
   cut_off t = record { words = λ s w. w.words }
 
 -- at the end it is as if the replies had not been written out
@@ -60,8 +58,8 @@ at_end_lem : (taken : Bool) (s : LineSession) → (at_end taken (written_out s))
 at_end_lem true s = ap (λ u. u.words) (written_last s)
 at_end_lem false s = refl
 
-pub all_carried : {most : ℕ} {t t' t'' : List ℤ} {p p' : Progress most} {taken : Bool} → StandsFor (fresh_session t) t p → CarriedSome t p t' p'
-    → CarriedLast t' p' taken t'' → CarriedAll t t''
+pub all_carried : {t t' t'' : List ℤ} {b b' : List ℕ} {p p' : Progress} {taken : Bool} → StandsFor (fresh_session t) t b p
+    → CarriedSome t b p t' b' p' → CarriedLast t' b' p' taken t'' → CarriedAll t t''
 all_carried {t} {taken = taken} w a last = record {
   bytes = a.bytes;
   taken = taken;

@@ -6,7 +6,7 @@
 // the standard streams: which bytes `read` gives, and that `write_all` writes what it is handed.
 #![tactic(auto)]
 
-ghost use Rattle.std.specs.Prelude.{◌≡◌, List, [], ◌≤◌, ℤ, take, is_ok, IsOk, IfOk, OnOk, OnErr};
+ghost use Rattle.std.specs.Prelude.{◌≡◌, List, [], ◌≤◌, ℤ, length, take, is_ok, IsOk, IfOk, OnOk, OnErr};
 ghost use Rattle.std.specs.Io.KnownBytes.{Appends, Consumes};
 ghost use Rattle.steps_replies.specs.Written.{longest_line};
 ghost use Rattle.steps_io.specs.Carried.{Carried, CarriedFront, CarriedSome, CarriedLast, CarriedAll};
@@ -23,39 +23,38 @@ const TABLE_WORDS: usize = 64;
 // How many bytes a read takes at most.
 const INPUT_BYTES: usize = 65536;
 
-// The replies that wait are written, and none waits.
+// The replies in the buffer are written, and none waits.
 #[tactic(auto, using(crate::specs::CarriedLaws::replies_written))]
-fn write_replies<W: Write, const BYTES: usize>(
-    progress: &mut Progress<BYTES>,
-    sink: &mut W,
-) -> io::Result<()>
-    ensures ready { progress.new.replies.bytes ≡ [] }
-    ensures carried { (t : List ℤ) → Carried t progress.old [] t progress.new }
-    ensures written { OnOk result (Appends (W.contents sink.old) (W.contents sink.new) progress.old.replies.bytes) }
+fn write_replies<W: Write>(progress: &mut Progress, buffer: &[u8], sink: &mut W) -> io::Result<()>
+    requires { progress.old.place ≤ length buffer.now }
+    ensures ready { progress.new.place ≡ 0 }
+    ensures carried { (t : List ℤ) → Carried t buffer.now progress.old [] t buffer.now progress.new }
+    ensures written { OnOk result (Appends (W.contents sink.old) (W.contents sink.new) (take progress.old.place buffer.now)) }
 {
-    let written = sink.write_all(progress.replies.as_str().as_bytes());
-    progress.replies.clear();
+    let written = sink.write_all(&buffer[..progress.place]);
+    progress.place = 0;
     written
 }
 
 // The bytes of one read are answered, as many at a time as their replies have room for, which are then written.
-fn take_input<W: Write, const BYTES: usize>(
-    progress: &mut Progress<BYTES>,
+fn take_input<W: Write>(
+    progress: &mut Progress,
     table: &mut [i64],
+    buffer: &mut [u8],
     sink: &mut W,
     input: &[u8],
 ) -> io::Result<()>
-    requires room { longest_line ≤ BYTES }
-    requires ready { progress.old.replies.bytes ≡ [] }
-    ensures ready { progress.new.replies.bytes ≡ [] }
-    ensures all { OnOk result (Carried table.old progress.old input.now table.new progress.new) }
-    ensures front { OnErr result (CarriedFront table.old progress.old input.now table.new progress.new) }
-    ensures written { OnOk result (Written table.old progress.old (W.contents sink.old) input.now (W.contents sink.new)) }
+    requires room { longest_line ≤ length buffer.old }
+    requires ready { progress.old.place ≡ 0 }
+    ensures ready { progress.new.place ≡ 0 }
+    ensures all { OnOk result (Carried table.old buffer.old progress.old input.now table.new buffer.new progress.new) }
+    ensures front { OnErr result (CarriedFront table.old buffer.old progress.old input.now table.new buffer.new progress.new) }
+    ensures written { OnOk result (Written table.old buffer.old progress.old (W.contents sink.old) input.now (W.contents sink.new)) }
 {
     let mut rest = input;
     while !rest.is_empty() {
-        let count = progress.take_bytes(table, rest);
-        write_replies(progress, sink)?;
+        let count = progress.take_bytes(table, buffer, rest);
+        write_replies(progress, buffer, sink)?;
         rest = &rest[count..];
     }
     Ok(())
@@ -63,44 +62,46 @@ fn take_input<W: Write, const BYTES: usize>(
 
 // One read, into the lent input: what it gave is answered, or a front of it where a write fails. A failed read gives nothing, as one
 // at the end.
-fn take_some<R: Read, W: Write, const BYTES: usize>(
-    progress: &mut Progress<BYTES>,
+fn take_some<R: Read, W: Write>(
+    progress: &mut Progress,
     table: &mut [i64],
+    buffer: &mut [u8],
     source: &mut R,
     sink: &mut W,
     input: &mut [u8],
 ) -> io::Result<usize>
-    requires room { longest_line ≤ BYTES }
-    requires ready { progress.old.replies.bytes ≡ [] }
-    ensures ready { progress.new.replies.bytes ≡ [] }
-    ensures all { IfOk result (λ got. Carried table.old progress.old (take got input.new) table.new progress.new) }
-    ensures front { OnErr result (ReadFront table.old progress.old (R.remaining source.old) input.new table.new progress.new (R.remaining source.new)) }
-    ensures written { IfOk result (λ got. Written table.old progress.old (W.contents sink.old) (take got input.new) (W.contents sink.new)) }
+    requires room { longest_line ≤ length buffer.old }
+    requires ready { progress.old.place ≡ 0 }
+    ensures ready { progress.new.place ≡ 0 }
+    ensures all { IfOk result (λ got. Carried table.old buffer.old progress.old (take got input.new) table.new buffer.new progress.new) }
+    ensures front { OnErr result (ReadFront table.old buffer.old progress.old (R.remaining source.old) input.new table.new buffer.new progress.new (R.remaining source.new)) }
+    ensures written { IfOk result (λ got. Written table.old buffer.old progress.old (W.contents sink.old) (take got input.new) (W.contents sink.new)) }
     ensures read { IfOk result (λ got. Consumes (R.remaining source.old) (R.remaining source.new) (take got input.new)) }
 {
     let got = source.read(input).unwrap_or(0);
-    take_input(progress, table, sink, &input[..got])?;
+    take_input(progress, table, buffer, sink, &input[..got])?;
     Ok(got)
 }
 
 // Reads until one gives nothing. A proved loop has to end, and nothing says that the input does: no input has so many bytes.
 #[tactic(auto, using(crate::specs::StreamLaws::read_by_read))]
-fn take_all<R: Read, W: Write, const BYTES: usize>(
-    progress: &mut Progress<BYTES>,
+fn take_all<R: Read, W: Write>(
+    progress: &mut Progress,
     table: &mut [i64],
+    buffer: &mut [u8],
     source: &mut R,
     sink: &mut W,
     input: &mut [u8],
 ) -> io::Result<()>
-    requires room { longest_line ≤ BYTES }
-    requires ready { progress.old.replies.bytes ≡ [] }
-    ensures ready { progress.new.replies.bytes ≡ [] }
-    ensures carried { CarriedSome table.old progress.old table.new progress.new }
-    ensures streamed { OnOk result (Streamed table.old progress.old (R.remaining source.old) (W.contents sink.old)
-        table.new progress.new (R.remaining source.new) (W.contents sink.new)) }
+    requires room { longest_line ≤ length buffer.old }
+    requires ready { progress.old.place ≡ 0 }
+    ensures ready { progress.new.place ≡ 0 }
+    ensures carried { CarriedSome table.old buffer.old progress.old table.new buffer.new progress.new }
+    ensures streamed { OnOk result (Streamed table.old buffer.old progress.old (R.remaining source.old) (W.contents sink.old)
+        table.new buffer.new progress.new (R.remaining source.new) (W.contents sink.new)) }
 {
     for _ in 0..u64::MAX {
-        if take_some(progress, table, source, sink, input)? == 0 {
+        if take_some(progress, table, buffer, source, sink, input)? == 0 {
             return Ok(());
         }
     }
@@ -109,21 +110,22 @@ fn take_all<R: Read, W: Write, const BYTES: usize>(
 
 // The last line, where all replies before it were written; where a write failed, the table stays as it is.
 #[tactic(auto, using(crate::specs::StreamLaws::over_last))]
-fn take_last<W: Write, const BYTES: usize>(
-    progress: &mut Progress<BYTES>,
+fn take_last<W: Write>(
+    progress: &mut Progress,
     table: &mut [i64],
+    buffer: &mut [u8],
     sink: &mut W,
     all: io::Result<()>,
 ) -> io::Result<()>
-    requires room { longest_line ≤ BYTES }
-    requires ready { progress.old.replies.bytes ≡ [] }
-    ensures carried { CarriedLast table.old progress.old (is_ok all) table.new }
+    requires room { longest_line ≤ length buffer.old }
+    requires ready { progress.old.place ≡ 0 }
+    ensures carried { CarriedLast table.old buffer.old progress.old (is_ok all) table.new }
     ensures all_taken { OnOk result (IsOk all) }
-    ensures written { OnOk result (WrittenLast table.old progress.old (W.contents sink.old) (W.contents sink.new)) }
+    ensures written { OnOk result (WrittenLast table.old buffer.old progress.old (W.contents sink.old) (W.contents sink.new)) }
 {
     all?;
-    progress.end_last(table);
-    write_replies(progress, sink)
+    progress.end_last(table, buffer);
+    write_replies(progress, buffer, sink)
 }
 
 // From a fresh start, all lines, over what is lent; the last one where all replies before it were written.
@@ -138,9 +140,10 @@ fn answer_all<R: Read, W: Write>(
     ensures answered { OnOk result (AnsweredAll table.old (R.remaining source.old) (W.contents sink.old)
         table.new (R.remaining source.new) (W.contents sink.new)) }
 {
-    let mut progress = Progress::<REPLY_BYTES>::fresh();
-    let all = take_all(&mut progress, table, source, sink, input);
-    take_last(&mut progress, table, sink, all)
+    let mut progress = Progress::fresh();
+    let mut buffer = [0; REPLY_BYTES];
+    let all = take_all(&mut progress, table, &mut buffer, source, sink, input);
+    take_last(&mut progress, table, &mut buffer, sink, all)
 }
 
 // The whole of standard input. A write that fails ends it.

@@ -1,11 +1,10 @@
 -- How a session goes on standing in memory. A byte that is kept lengthens what is kept as it lengthens the line, up to the bytes
 -- that tell what a line asks; past them neither grows. A line that is answered from what is kept is answered as it is, since
--- those bytes tell what it asks, and its reply stands behind those that wait. Assumes nothing.
+-- those bytes tell what it asks, and its reply stands after what was answered before. Assumes nothing.
 use Rattle.std.specs.Prelude.{◌≡◌, refl, List, [], ◌∷◌, ◌++◌, ℕ, ◌+◌, ◌≤◌, ◌<◌, ℤ, length, take}
 use Rattle.std.proofs.Common.{sym, ap, ◌∙◌, arith, length-append, take_all, length-take-le}
 use Rattle.std.proofs.lemmas.List.{take-append-le}
 use Rattle.laws.specs.TestLaws.{by_order}
-use Rattle.arrayvec.specs.ArrayString.{ArrayString}
 use Rattle.versions.specs.declared.VersionRecord.{VersionRecord}
 use Rattle.steps_commands.specs.Commands.{asked}
 use Rattle.steps_commands.specs.LongLineLaws as long
@@ -26,34 +25,34 @@ by_length line kept e short long =
     (λ l. long (ap length e ∙ length-take-le line_bytes line (omega arith)) l)
     (λ l. short (e ∙ take_all line_bytes line l) l)
 
-module _ {most : ℕ} {s : LineSession} {t : List ℤ} {p : Progress most} (w : StandsFor s t p) where
+module _ {s : LineSession} {t : List ℤ} {b : List ℕ} {p : Progress} (w : StandsFor s t b p) where
   -- ---- a byte of a line
-  pub stands_longer : (b : ℕ) (line : Kept) → length p.line.items < line_bytes → line.items ≡ p.line.items ++ (b ∷ [])
-      → StandsFor {most = most} (longer s b) t (record { versions = p.versions; line = line; replies = p.replies })
-  stands_longer b line l e = record {
+  pub stands_longer : (byte : ℕ) (line : Kept) → length p.line.items < line_bytes → line.items ≡ p.line.items ++ (byte ∷ [])
+      → StandsFor (longer s byte) t b (record { versions = p.versions; line = line; place = p.place })
+  stands_longer byte line l e = record {
     words = w.words;
     versions = w.versions;
     line = by_length s.line p.line.items w.line
-        (λ same short. e ∙ ap (λ front. front ++ (b ∷ [])) same
-        ∙ sym (take_all line_bytes (s.line ++ (b ∷ [])) (omega (arith, length-append s.line (b ∷ []), ap length same))))
+        (λ same short. e ∙ ap (λ front. front ++ (byte ∷ [])) same
+        ∙ sym (take_all line_bytes (s.line ++ (byte ∷ [])) (omega (arith, length-append s.line (byte ∷ []), ap length same))))
         (λ full long. absurd (omega arith));
     output = w.output;
   }
 
-  pub stands_full : (b : ℕ) → length p.line.items ≡ line_bytes → StandsFor (longer s b) t p
-  stands_full b full = record {
+  pub stands_full : (byte : ℕ) → length p.line.items ≡ line_bytes → StandsFor (longer s byte) t b p
+  stands_full byte full = record {
     words = w.words;
     versions = w.versions;
     line = by_length s.line p.line.items w.line
-        (λ same short. w.line ∙ sym (take-append-le line_bytes s.line (b ∷ []) (omega (arith, ap length same))))
-        (λ full long. w.line ∙ sym (take-append-le line_bytes s.line (b ∷ []) (omega arith)));
+        (λ same short. w.line ∙ sym (take-append-le line_bytes s.line (byte ∷ []) (omega (arith, ap length same))))
+        (λ full long. w.line ∙ sym (take-append-le line_bytes s.line (byte ∷ []) (omega arith)));
     output = w.output;
   }
 
   -- ---- a line that ends
-  pub stands_ended : {t' : List ℤ} {v : VersionRecord} {line : Kept} {replies : ArrayString} → length p.replies.bytes + longest_line ≤ most
-      → Answered most t p.versions p.line.items p.replies.bytes t' v replies.bytes → line.items ≡ []
-      → StandsFor {most = most} (ended s) t' (record { versions = v; line = line; replies = replies })
+  pub stands_ended : {t' : List ℤ} {v : VersionRecord} {line : Kept} {place : ℕ} {b' : List ℕ} → p.place + longest_line ≤ length b
+      → Answered t p.versions p.line.items b p.place place t' v b' → line.items ≡ []
+      → StandsFor (ended s) t' b' (record { versions = v; line = line; place = place })
   unfolding ended
   stands_ended room a empty =
       let tells : asked p.line.items ≡ asked s.line = ap asked w.line ∙ long.kept s.line in
@@ -61,7 +60,7 @@ module _ {most : ℕ} {s : LineSession} {t : List ℤ} {p : Progress most} (w : 
         words = a.words ∙ rw (tells, w.words, w.versions) refl;
         versions = a.versions ∙ rw (tells, w.words, w.versions) refl;
         line = empty;
-        output = a.replied ∙ up_to _ _ _ room ∙ rw (tells, w.output, w.words, w.versions) refl;
+        output = up_to room a.replied ∙ rw (tells, w.output, w.words, w.versions) refl;
       }
 
   -- ---- the last line: something is kept of it exactly if it has a byte

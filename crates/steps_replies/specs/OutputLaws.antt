@@ -1,8 +1,11 @@
--- Where there is room for the longest line, what waits then is what waited, and the line; without room it is what waited. Each
+-- A line written where there is room for the longest: the bytes up to the answered place are those up to the place, and the line;
+-- without room the buffer and the place stay. A run of stores is the front, the line and the rest, of which so many are taken. Each
 -- answered line is at most as long as the longest: a word of at most 8 bytes, a newline, and a space and 20 bytes for each number
 -- of 64 bits; two numbers follow only the word row. Assumes nothing.
-use Rattle.std.specs.Prelude.{◌≡◌, List, [], ◌∷◌, ◌++◌, ℕ, ◌+◌, ◌≤◌, ◌<◌, ℤ, pos, negsuc, suc, Some, None, codes, length}
-use Rattle.std.proofs.Common.{arith, le-leb, length-append, SFits}
+use Rattle.std.specs.Prelude.{◌≡◌, refl, List, [], ◌∷◌, ◌++◌, ℕ, ◌+◌, ◌≤◌, ◌<◌, ℤ, pos, negsuc, suc, Some, None, codes, length, take, drop}
+use Rattle.std.proofs.Common.{sym, ap, ap₂, ◌∙◌, arith, le-leb, length-append, length-take-le, SFits}
+use Rattle.std.proofs.lemmas.List.Edits.{sets, sets-eq}
+use Rattle.std.proofs.Math.Seq.{take-append_seam}
 use Rattle.std.proofs.lemmas.Bool.{lt-leb}
 use Rattle.std.proofs.lemmas.Fmt.{length-decimal-le}
 use Rattle.std.specs.Fmt.{signed_decimal}
@@ -12,22 +15,35 @@ use Rattle.refusals.specs.declared.Refusal.TheVariants.{BadTable}
 use Rattle.refusals.specs.Refusals.{number}
 use Rattle.reads.specs.declared.Row.{Row}
 use Rattle.steps_replies.specs.Replies.{line_of, version_line, slot_line, row_line, refused_line, bad_line}
-use Rattle.steps_replies.specs.Written.{longest_line, reply_bytes, written}
+use Rattle.steps_replies.specs.Written.{longest_line, reply_bytes, buffer_after, place_after, Written}
 
--- ---- what waits
-pub up_to : (bytes : ℕ) (text line : List ℕ) → length text + longest_line ≤ bytes → written bytes text line ≡ text ++ line
-unfolding written
-up_to bytes text line room = rw (le-leb (length text + longest_line) bytes room)
+-- ---- the bytes up to the answered place
+pub up_to : {buffer buffer' line : List ℕ} {place r : ℕ} → place + longest_line ≤ length buffer → Written buffer place line r buffer'
+    → take r buffer' ≡ take place buffer ++ line
+unfolding buffer_after place_after
+up_to {buffer} {buffer'} {line} {place} {r} room w =
+    let h = le-leb (place + longest_line) (length buffer) room in
+    let answer : r ≡ place + length line = w.answer ∙ rw h refl in
+    let bytes : buffer' ≡ sets buffer place line = w.bytes ∙ rw h refl in
+    let fits : place + length line ≤ length buffer = rw answer at (w.within (omega arith)) in
+    let long : r ≡ length (take place buffer ++ line) =
+    answer ∙ sym (length-append (take place buffer) line ∙ ap (λ n. n + length line) (length-take-le place buffer (omega arith))) in
+    ap₂ take long (bytes ∙ sets-eq line buffer place fits) ∙ take-append_seam (take place buffer ++ line) (drop (place + length line) buffer)
 
-pub no_room : (bytes : ℕ) (text line : List ℕ) → bytes < length text + longest_line → written bytes text line ≡ text
-unfolding written
-no_room bytes text line full = rw (lt-leb (length text + longest_line) bytes full)
+-- without room the buffer and the place stay
+pub no_room : {buffer buffer' line : List ℕ} {place r : ℕ} → length buffer < place + longest_line → Written buffer place line r buffer'
+    → (r ≡ place) × (buffer' ≡ buffer)
+unfolding buffer_after place_after
+no_room {buffer} {place = place} full w =
+    let h = lt-leb (place + longest_line) (length buffer) full in
+    (w.answer ∙ rw h refl, w.bytes ∙ rw h refl)
 
--- nothing is ever written into a text that is smaller than the longest line
-pub never_room : (bytes : ℕ) (text line : List ℕ) → bytes < longest_line → written bytes text line ≡ text
-never_room bytes text line small = no_room bytes text line (omega (arith, small))
+-- nothing is ever written into a buffer that is shorter than the longest line
+pub never_room : {buffer buffer' line : List ℕ} {place r : ℕ} → length buffer < longest_line → Written buffer place line r buffer'
+    → (r ≡ place) × (buffer' ≡ buffer)
+never_room small w = no_room (omega (arith, small)) w
 
--- the text of the program has room before the first line
+-- the buffer of the program has room before the first line
 pub room_at_first : longest_line ≤ reply_bytes
 room_at_first = omega arith
 

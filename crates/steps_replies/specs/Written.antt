@@ -1,7 +1,8 @@
--- A line written behind those that wait in a text of any size, where there is room for the longest; what waits then is one text.
--- Assumes nothing.
-use Rattle.std.specs.Prelude.{◌≡◌, Bool, cond, List, ◌++◌, ℕ, ◌+◌, leb, length}
+-- A line written into a lent buffer: it stands there from a place on, if there is room for the longest line, and every other
+-- byte stays. Assumes nothing.
+use Rattle.std.specs.Prelude.{◌≡◌, Bool, cond, List, ℕ, ◌+◌, ◌≤◌, leb, length}
 use Rattle.std.proofs.Common.{sym, ◌∙◌}
+use Rattle.std.proofs.lemmas.List.Edits.{sets}
 
 -- row, and two numbers of 20 bytes, a space before each, and a newline
 abbrev pub longest_line : ℕ
@@ -11,14 +12,24 @@ longest_line = 46
 abbrev pub reply_bytes : ℕ
 reply_bytes = 65536
 
--- a text of so many bytes has room
-abbrev pub has_room : ℕ → List ℕ → Bool
-has_room bytes text = leb (length text + longest_line) bytes
+abbrev pub has_room : List ℕ → ℕ → Bool
+has_room buffer place = leb (place + longest_line) (length buffer)
 
 -- without room nothing is written
-unfoldable pub written : ℕ → List ℕ → List ℕ → List ℕ
-written bytes text line = cond (has_room bytes text) (text ++ line) text
+unfoldable pub buffer_after : List ℕ → ℕ → List ℕ → List ℕ
+buffer_after buffer place line = cond (has_room buffer place) (sets buffer place line) buffer
 
--- the contract is an equation with it, so it allows one outcome
-pub one_outcome : (bytes : ℕ) (text line : List ℕ) {out out' : List ℕ} → out ≡ written bytes text line → out' ≡ written bytes text line → out ≡ out'
-one_outcome bytes text line x y = x ∙ sym y
+-- and the place itself is answered, else the place after the line
+unfoldable pub place_after : List ℕ → ℕ → List ℕ → ℕ
+place_after buffer place line = cond (has_room buffer place) (place + length line) place
+
+-- the contract, and that it allows one outcome
+pub record Written (buffer : List ℕ) (place : ℕ) (line : List ℕ) (r : ℕ) (buffer' : List ℕ) : Type 0 where
+  pub answer : r ≡ place_after buffer place line
+  pub bytes : buffer' ≡ buffer_after buffer place line
+  -- a place in the buffer is followed by one
+  pub within : place ≤ length buffer → r ≤ length buffer
+
+pub one_outcome : {buffer : List ℕ} {place : ℕ} {line : List ℕ} {r r' : ℕ} {b b' : List ℕ}
+    → Written buffer place line r b → Written buffer place line r' b' → (r ≡ r') × (b ≡ b')
+one_outcome x y = (x.answer ∙ sym y.answer, x.bytes ∙ sym y.bytes)

@@ -1,13 +1,12 @@
-// What the program `steps` answers to a line: each answer of the library as a line, and the text in which lines wait until they are
-// written out. All here are leaves for our other crates.
+// What the program `steps` answers to a line: each answer of the library as a line, written into a lent buffer from a place on. All
+// here are leaves for our other crates.
 #![tactic(auto)]
 
-ghost use Rattle.std.specs.Prelude.{◌≡◌, ℕ, ◌+◌, ◌*◌, ◌≤◌, List, ◌++◌, length};
-ghost use Rattle.arrayvec.specs.ArrayString.{array_string_len};
+ghost use Rattle.std.specs.Prelude.{◌≡◌, ℕ, ◌+◌, ◌*◌, ◌≤◌, List, leb, length};
 ghost use Rattle.steps_replies.specs.Replies.{line_by, version_line, slot_line, row_line, answer_line, bad_line};
-ghost use Rattle.steps_replies.specs.Written.{longest_line, has_room, written};
+ghost use Rattle.steps_replies.specs.Written.{longest_line, Written};
+ghost use Rattle.steps_replies.specs.Puts.{Put};
 
-use arrayvec::ArrayString;
 use itoa::{Buffer, Integer};
 use reads::Row;
 use refusals::Refusal;
@@ -15,60 +14,61 @@ use refusals::Refusal;
 // The longest line that is answered: row, and two numbers of 20 bytes, a space before each, and a newline.
 pub const LONGEST_LINE: usize = 46;
 
-// How many bytes of lines wait at most in the program; a text of any other size is written into as well.
+// How many bytes of lines wait at most in the program; a buffer of any other length is written into as well.
 pub const REPLY_BYTES: usize = 65536;
 
 // What ends a line.
 pub const NEWLINE: u8 = b'\n';
 
 // An answer that is a line.
-pub trait Reply<const BYTES: usize>: Copy {
+pub trait Reply: Copy {
     ghost line: { Self → List ℕ };
 
-    // The line, behind those that wait; there is room for the longest.
-    fn push_to(self, replies: &mut ArrayString<BYTES>)
-        requires { array_string_len replies.old + longest_line ≤ BYTES }
-        ensures { replies.new.bytes ≡ replies.old.bytes ++ line self };
+    // The line, from a place on; there is room for the longest. Answers the place after it.
+    fn put_to(self, buffer: &mut [u8], place: usize) -> usize
+        requires { place + longest_line ≤ length buffer.old }
+        ensures put { Put buffer.old place (line self) result buffer.new }
+        ensures within { result ≤ length buffer.new };
 }
 
 // The number of a version, as begin and commit answer it.
-impl<const BYTES: usize> Reply<BYTES> for i64 {
+impl Reply for i64 {
     ghost line = { version_line };
 
-    fn push_to(self, replies: &mut ArrayString<BYTES>) {
-        push_line(replies, "version", &[self]);
+    fn put_to(self, buffer: &mut [u8], place: usize) -> usize {
+        put_line(buffer, place, "version", &[self])
     }
 }
 
 // The number of a slot, as a change answers it.
-impl<const BYTES: usize> Reply<BYTES> for usize {
+impl Reply for usize {
     ghost line = { slot_line };
 
-    fn push_to(self, replies: &mut ArrayString<BYTES>) {
-        push_line(replies, "slot", &[self]);
+    fn put_to(self, buffer: &mut [u8], place: usize) -> usize {
+        put_line(buffer, place, "slot", &[self])
     }
 }
 
 // A row or none, as a read answers it.
-impl<const BYTES: usize> Reply<BYTES> for Option<Row> {
+impl Reply for Option<Row> {
     ghost line = { row_line };
 
-    fn push_to(self, replies: &mut ArrayString<BYTES>) {
+    fn put_to(self, buffer: &mut [u8], place: usize) -> usize {
         match self {
-            Some(row) => push_line(replies, "row", &[row.total1, row.total2]),
-            None => push_line::<i64, BYTES>(replies, "none", &[]),
+            Some(row) => put_line(buffer, place, "row", &[row.total1, row.total2]),
+            None => put_line::<i64>(buffer, place, "none", &[]),
         }
     }
 }
 
 // What the library answers, or its refusal.
-impl<A: Reply<BYTES>, const BYTES: usize> Reply<BYTES> for Result<A, Refusal> {
+impl<A: Reply> Reply for Result<A, Refusal> {
     ghost line = { answer_line A.line };
 
-    fn push_to(self, replies: &mut ArrayString<BYTES>) {
+    fn put_to(self, buffer: &mut [u8], place: usize) -> usize {
         match self {
-            Ok(answer) => answer.push_to(replies),
-            Err(refusal) => push_line(replies, "refused", &[refusal.number()]),
+            Ok(answer) => answer.put_to(buffer, place),
+            Err(refusal) => put_line(buffer, place, "refused", &[refusal.number()]),
         }
     }
 }
@@ -77,45 +77,53 @@ impl<A: Reply<BYTES>, const BYTES: usize> Reply<BYTES> for Result<A, Refusal> {
 #[derive(Clone, Copy)]
 pub struct BadLine;
 
-impl<const BYTES: usize> Reply<BYTES> for BadLine {
+impl Reply for BadLine {
     ghost line = { λ _. bad_line };
 
-    fn push_to(self, replies: &mut ArrayString<BYTES>) {
-        push_line::<i64, BYTES>(replies, "bad line", &[]);
+    fn put_to(self, buffer: &mut [u8], place: usize) -> usize {
+        put_line::<i64>(buffer, place, "bad line", &[])
     }
+}
+
+// A text, from a place on.
+fn put_text(buffer: &mut [u8], place: usize, text: &str) -> usize
+    requires { place + length text.now ≤ length buffer.old }
+    ensures { Put buffer.old place text.now result buffer.new }
+{
+    let next = place + text.len();
+    buffer[place..next].copy_from_slice(text.as_bytes());
+    next
 }
 
 // A word and numbers, a space before each, and a newline.
-fn push_line<I: Integer, const BYTES: usize>(
-    replies: &mut ArrayString<BYTES>,
-    word: &str,
-    numbers: &[I],
-)
-    requires { array_string_len replies.old + length word.now + length numbers.now * (I.MAX_STR_LEN + 1) + 1 ≤ BYTES }
-    ensures { replies.new.bytes ≡ replies.old.bytes ++ line_by I.text word.now numbers.now }
+fn put_line<I: Integer>(buffer: &mut [u8], place: usize, word: &str, numbers: &[I]) -> usize
+    requires { place + length word.now + length numbers.now * (I.MAX_STR_LEN + 1) + 1 ≤ length buffer.old }
+    ensures put { Put buffer.old place (line_by I.text word.now numbers.now) result buffer.new }
+    ensures within { result ≤ length buffer.new }
 {
     let mut digits = Buffer::new();
-    replies.push_str(word);
+    let mut next = put_text(buffer, place, word);
     for number in numbers {
-        replies.push_str(" ");
-        replies.push_str(digits.format(*number));
+        next = put_text(buffer, next, " ");
+        next = put_text(buffer, next, digits.format(*number));
     }
-    replies.push_str("\n");
+    put_text(buffer, next, "\n")
 }
 
-// Whether the longest line fits behind those that wait.
-pub fn has_room<const BYTES: usize>(replies: &ArrayString<BYTES>) -> bool
-    ensures { result ≡ has_room BYTES replies.now.bytes }
+// Whether the longest line fits between a place and the end.
+pub fn has_room(length: usize, place: usize) -> bool
+    ensures { result ≡ leb (place + longest_line) length }
 {
-    replies.remaining_capacity() >= LONGEST_LINE
+    length.saturating_sub(place) >= LONGEST_LINE
 }
 
-// The line of an answer behind those that wait, or nothing where the longest has no room.
-#[tactic(auto, unfolding(crate::specs::Written::written))]
-pub fn write_line<A: Reply<BYTES>, const BYTES: usize>(replies: &mut ArrayString<BYTES>, answer: A)
-    ensures { replies.new.bytes ≡ written BYTES replies.old.bytes (A.line answer) }
+// The line of an answer, from a place on, or nothing where the longest has no room. Answers the place after it, or the place itself.
+#[tactic(auto, unfolding(crate::specs::Written::buffer_after, crate::specs::Written::place_after))]
+pub fn write_line<A: Reply>(buffer: &mut [u8], place: usize, answer: A) -> usize
+    ensures { Written buffer.old place (A.line answer) result buffer.new }
 {
-    if has_room(replies) {
-        answer.push_to(replies);
+    if has_room(buffer.len(), place) {
+        return answer.put_to(buffer, place);
     }
+    place
 }

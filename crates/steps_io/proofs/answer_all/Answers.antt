@@ -6,6 +6,6 @@ use Rattle.steps_io.proofs.answer_all.Goals as goal
 
 pub returns-clause-carried : goal.returns-clause-carried
 returns-clause-carried g c =
-    let fresh = c.fresh-progress.ensures.stands_for c.args.table.now in
+    let fresh = c.fresh-progress.ensures.stands_for c.args.table.now _ in
     all_carried (record { words = fresh.words; versions = (search rules); line = fresh.line; output = fresh.output })
     c.take_all-all.ensures.carried c.take_last.ensures.carried

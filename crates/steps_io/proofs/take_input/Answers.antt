@@ -7,7 +7,7 @@ use Rattle.steps_io.specs.StreamLaws.{none_written, replies_out, written_on}
 use Rattle.steps_io.proofs.take_input.Goals as goal
 
 pub loop-rest-init : goal.loop-rest-init
-loop-rest-init g c = record { front = []; whole = refl; ready = c.requires.ready; carried = carried_none _ c.requires.ready; written = none_written _ c.requires.ready }
+loop-rest-init g c = record { front = []; whole = refl; room = c.requires.room; ready = c.requires.ready; carried = carried_none _ c.requires.ready; written = none_written _ c.requires.ready }
 
 pub returns-in_err-write_replies-clause-front : goal.returns-in_err-write_replies-clause-front
 returns-in_err-write_replies-clause-front g c =
@@ -24,6 +24,7 @@ loop-rest-preserved g c =
     record {
       front = c.loop-rest.invariant.front ++ part;
       whole = rw part_to_end (part_over _ _ c.loop-rest.rest.now c.take_bytes-count.result c.loop-rest.invariant.whole);
+      room = search rules;
       ready = c.write_replies.ensures.ready;
       carried = carried_on c.loop-rest.invariant.front part c.loop-rest.invariant.carried turn;
       written = written_on c.loop-rest.invariant.front part c.loop-rest.invariant.carried c.loop-rest.invariant.written

@@ -5,12 +5,12 @@ use Rattle.std.proofs.lemmas.Grind.{common_steps}
 use Rattle.steps_lines.specs.StandingLaws.{stands_last, stands_none}
 use Rattle.steps_lines.proofs.Progress.end_last.Goals as goal
 
-pub returns-then-not-is_empty : goal.returns-then-not-is_empty
-returns-then-not-is_empty g c =
+pub returns-then-not-is_empty-clause-stands_for : goal.returns-then-not-is_empty-clause-stands_for
+returns-then-not-is_empty-clause-stands_for c =
     let some : 0 < length c.args.self.now.line.items = grind (arith, common_steps) in
-    record { stands_for = λ s w. rw (stands_last w some) (c.end_line.ensures.stands_for s w) }
+    λ s w. rw (stands_last w some) (c.end_line.ensures.stands_for s w)
 
-pub returns-else-not-is_empty : goal.returns-else-not-is_empty
-returns-else-not-is_empty g c =
+pub returns-else-not-is_empty-clause-stands_for : goal.returns-else-not-is_empty-clause-stands_for
+returns-else-not-is_empty-clause-stands_for c =
     let none : length c.args.self.now.line.items ≡ 0 = grind (arith, common_steps) in
-    record { stands_for = λ s w. rw (stands_none w none) w }
+    λ s w. rw (stands_none w none) w

@@ -2,5 +2,5 @@
 use Rattle.steps_lines.specs.StandingLaws.{stands_ended}
 use Rattle.steps_lines.proofs.Progress.end_line.Goals as goal
 
-pub returns : goal.returns
-returns g c = record { stands_for = λ s w. stands_ended w c.requires (rw c.as_slice.ensures at c.answer.ensures) c.clear.ensures }
+pub returns-clause-stands_for : goal.returns-clause-stands_for
+returns-clause-stands_for c = λ s w. stands_ended w c.requires.room_for_a_line (rw c.as_slice.ensures at c.answer-self.ensures) c.clear.ensures

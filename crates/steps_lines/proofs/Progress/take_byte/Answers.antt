@@ -8,15 +8,15 @@ use Rattle.steps_lines.specs.Standing.{line_bytes}
 use Rattle.steps_lines.specs.StandingLaws.{stands_longer, stands_full}
 use Rattle.steps_lines.proofs.Progress.take_byte.Goals as goal
 
-pub returns-then-byte-eq-NEWLINE : goal.returns-then-byte-eq-NEWLINE
-returns-then-byte-eq-NEWLINE g c = record { stands_for = λ s w. rw (at_newline s _ (eq-eqb _ _ c.if-byte-eq-NEWLINE.true)) (c.end_line.ensures.stands_for s w) }
+pub returns-then-byte-eq-NEWLINE-clause-stands_for : goal.returns-then-byte-eq-NEWLINE-clause-stands_for
+returns-then-byte-eq-NEWLINE-clause-stands_for c = λ s w. rw (at_newline s _ (eq-eqb _ _ c.if-byte-eq-NEWLINE.true)) (c.end_line.ensures.stands_for s w)
 
-pub returns-then-not-is_full : goal.returns-then-not-is_full
-returns-then-not-is_full g c =
+pub returns-then-not-is_full-clause-stands_for : goal.returns-then-not-is_full-clause-stands_for
+returns-then-not-is_full-clause-stands_for c =
     let below : length c.args.self.now.line.items < line_bytes = grind (arith, common_steps) in
-    record { stands_for = λ s w. rw (at_other s _ (ne_eqb _ _ c.if-byte-eq-NEWLINE.false)) (stands_longer w _ _ below c.push.ensures) }
+    λ s w. rw (at_other s _ (ne_eqb _ _ c.if-byte-eq-NEWLINE.false)) (stands_longer w _ _ below c.push.ensures)
 
-pub returns-else-not-is_full : goal.returns-else-not-is_full
-returns-else-not-is_full g c =
+pub returns-else-not-is_full-clause-stands_for : goal.returns-else-not-is_full-clause-stands_for
+returns-else-not-is_full-clause-stands_for c =
     let full : length c.args.self.now.line.items ≡ line_bytes = grind (arith, common_steps) in
-    record { stands_for = λ s w. rw (at_other s _ (ne_eqb _ _ c.if-byte-eq-NEWLINE.false)) (stands_full w _ full) }
+    λ s w. rw (at_other s _ (ne_eqb _ _ c.if-byte-eq-NEWLINE.false)) (stands_full w _ full)

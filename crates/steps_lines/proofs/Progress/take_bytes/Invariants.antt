@@ -7,7 +7,8 @@ use Rattle.steps_lines.specs.Standing.{StandsFor}
 use Rattle.steps_lines.proofs.Progress.take_bytes.Given as goal
 
 abbrev pub invariant-loop-taken : goal.invariant-loop-taken
-invariant-loop-taken g l = record {
-  room : l.taken ≡ 0 → length l.self.replies.bytes + longest_line ≤ g.row.BYTES;
-  stands : (s : LineSession) → StandsFor s l.fn.table l.fn.self → StandsFor (after_bytes s (take l.taken l.input)) l.table l.self;
+invariant-loop-taken l = record {
+  room : l.taken ≡ 0 → l.self.place + longest_line ≤ length l.buffer;
+  sound : l.self.place ≤ length l.buffer;
+  stands : (s : LineSession) → StandsFor s l.fn.table l.fn.buffer l.fn.self → StandsFor (after_bytes s (take l.taken l.input)) l.table l.buffer l.self;
 }
