@@ -46,8 +46,8 @@ part_over input front rest count e =
 -- ---- the last line was answered, and its reply written
 module _ {b : List ℕ} {p : Progress} where
   pub last_carried : {t t' : List ℤ} {b' b'' : List ℕ} {last end : Progress} → ((s : LineSession) → StandsFor s t b p → StandsFor (finished s) t' b' last)
-      → ((u : List ℤ) → Carried u b' last [] u b'' end) → CarriedLast t b p true t'
-  last_carried {t' = t'} finish out = record { words = λ s w. rw (no_bytes (finished s)) at (((out t').stands _ (finish s w)).words) }
+      → Carried t' b' last [] t' b'' end → CarriedLast t b p true t'
+  last_carried finish out = record { words = λ s w. rw (no_bytes (finished s)) at ((out.stands _ (finish s w)).words) }
 
   -- or a write failed before
   pub cut_off : (t : List ℤ) → CarriedLast t b p false t

@@ -51,19 +51,19 @@ pub last_written : {t t' : List ℤ} {b b' : List ℕ} {p last : Progress} {sink
     → ((s : LineSession) → StandsFor s t b p → StandsFor (finished s) t' b' last) → Appends sink sink' (take last.place b') → WrittenLast t b p sink sink'
 last_written {sink = sink} {sink' = sink'} finish out = record { output = λ s w. subst (Appends sink sink') (finish s w).output out }
 
-pub all_answered : {E : Type 0} {t' t'' : List ℤ} {b' : List ℕ} {p p' : Progress} (t : List ℤ) (b : List ℕ) (source source' sink sink' sink'' : Option (List ℕ)) (all result : Result Unit E)
-    → ((u : List ℤ) (l : List ℕ) → StandsFor (fresh_session u) u l p) → OnOk all (Streamed t b p source sink t' b' p' source' sink') → CarriedLast t' b' p' (is_ok all) t''
+pub all_answered : {E : Type 0} {t t' t'' : List ℤ} {b b' : List ℕ} {p p' : Progress} (source source' sink sink' sink'' : Option (List ℕ)) (all result : Result Unit E)
+    → StandsFor (fresh_session t) t b p → OnOk all (Streamed t b p source sink t' b' p' source' sink') → CarriedLast t' b' p' (is_ok all) t''
     → OnOk result (IsOk all) → OnOk result (WrittenLast t' b' p' sink' sink'') → OnOk result (AnsweredAll t source sink t'' source' sink'')
-all_answered t b source source' sink sink' sink'' all (Err e) w a last taken written = tt
-all_answered t b source source' sink sink' sink'' (Err e) (Ok x) w a last taken written = absurd (cc)
-all_answered t b source source' sink sink' sink'' (Ok y) (Ok x) w a last taken written =
+all_answered source source' sink sink' sink'' all (Err e) w a last taken written = tt
+all_answered source source' sink sink' sink'' (Err e) (Ok x) w a last taken written = absurd (cc)
+all_answered {t = t} source source' sink sink' sink'' (Ok y) (Ok x) w a last taken written =
     let s = after_bytes (fresh_session t) a.bytes in
     record {
       bytes = a.bytes;
-      words = last.words _ (a.carried.stands _ (w t _)) ∙ ap (λ u. u.words) (written_last s);
+      words = last.words _ (a.carried.stands _ w) ∙ ap (λ u. u.words) (written_last s);
       read = a.read;
       written = rw (ap (λ u. u.output) (since_written_last s))
-          (Appends-trans sink sink' sink'' _ _ (a.written.output _ (w t _)) (written.output _ (a.carried.stands _ (w t _))));
+          (Appends-trans sink sink' sink'' _ _ (a.written.output _ w) (written.output _ (a.carried.stands _ w)));
     }
 
 -- over reads in turn, and over the last line

@@ -129,7 +129,6 @@ fn take_last<W: Write>(
 }
 
 // From a fresh start, all lines, over what is lent; the last one where all replies before it were written.
-#[tactic(auto, using(crate::specs::StreamLaws::all_answered))]
 fn answer_all<R: Read, W: Write>(
     source: &mut R,
     sink: &mut W,
