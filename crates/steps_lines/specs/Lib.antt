@@ -3,3 +3,4 @@ pub mod Kept
 pub mod Standing
 pub mod LineSessionLaws
 pub mod StandingLaws
+pub mod TextLaws

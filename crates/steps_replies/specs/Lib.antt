@@ -4,3 +4,5 @@ pub mod Puts
 pub mod WrittenLaws
 pub mod ReadBack
 pub mod OutputLaws
+pub mod Texts
+pub mod TextLaws

@@ -1,11 +1,8 @@
 -- A line written where there is room for the longest: the bytes up to the answered place are those up to the place, and the line;
--- without room the buffer and the place stay. A run of stores is the front, the line and the rest, of which so many are taken. Each
--- answered line is at most as long as the longest: a word of at most 8 bytes, a newline, and a space and 20 bytes for each number
--- of 64 bits; two numbers follow only the word row. Assumes nothing.
-use Rattle.std.specs.Prelude.{◌≡◌, refl, List, [], ◌∷◌, ◌++◌, ℕ, ◌+◌, ◌≤◌, ◌<◌, ℤ, pos, negsuc, suc, Some, None, codes, length, take, drop}
-use Rattle.std.proofs.Common.{sym, ap, ap₂, ◌∙◌, arith, le-leb, length-append, length-take-le, SFits}
-use Rattle.std.proofs.lemmas.List.Edits.{sets, sets-eq}
-use Rattle.std.proofs.Math.Seq.{take-append_seam}
+-- without room the buffer and the place stay. Each answered line is at most as long as the longest: a word of at most 8 bytes, a
+-- newline, and a space and 20 bytes for each number of 64 bits; two numbers follow only the word row. Assumes nothing.
+use Rattle.std.specs.Prelude.{◌≡◌, refl, List, [], ◌∷◌, ◌++◌, ℕ, ◌+◌, ◌≤◌, ◌<◌, ℤ, pos, negsuc, suc, Some, None, codes, length, take}
+use Rattle.std.proofs.Common.{◌∙◌, arith, le-leb, length-append, SFits}
 use Rattle.std.proofs.lemmas.Bool.{lt-leb}
 use Rattle.std.proofs.lemmas.Fmt.{length-decimal-le}
 use Rattle.std.specs.Fmt.{signed_decimal}
@@ -16,6 +13,7 @@ use Rattle.refusals.specs.Refusals.{number}
 use Rattle.reads.specs.declared.Row.{Row}
 use Rattle.steps_replies.specs.Replies.{line_of, version_line, slot_line, row_line, refused_line, bad_line}
 use Rattle.steps_replies.specs.Written.{longest_line, reply_bytes, buffer_after, place_after, Written}
+use Rattle.steps_replies.specs.WrittenLaws.{put_front}
 
 -- ---- the bytes up to the answered place
 pub up_to : {buffer buffer' line : List ℕ} {place r : ℕ} → place + longest_line ≤ length buffer → Written buffer place line r buffer'
@@ -24,11 +22,7 @@ unfolding buffer_after place_after
 up_to {buffer} {buffer'} {line} {place} {r} room w =
     let h = le-leb (place + longest_line) (length buffer) room in
     let answer : r ≡ place + length line = w.answer ∙ rw h refl in
-    let bytes : buffer' ≡ sets buffer place line = w.bytes ∙ rw h refl in
-    let fits : place + length line ≤ length buffer = rw answer at (w.within (omega arith)) in
-    let long : r ≡ length (take place buffer ++ line) =
-    answer ∙ sym (length-append (take place buffer) line ∙ ap (λ n. n + length line) (length-take-le place buffer (omega arith))) in
-    ap₂ take long (bytes ∙ sets-eq line buffer place fits) ∙ take-append_seam (take place buffer ++ line) (drop (place + length line) buffer)
+    put_front (rw answer at (w.within (omega arith))) (record { answer = answer; stored = w.bytes ∙ rw h refl })
 
 -- without room the buffer and the place stay
 pub no_room : {buffer buffer' line : List ℕ} {place r : ℕ} → length buffer < place + longest_line → Written buffer place line r buffer'
