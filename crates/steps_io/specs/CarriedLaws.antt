@@ -11,14 +11,15 @@ use Rattle.steps_lines.specs.Standing.{StandsFor}
 use Rattle.steps_io.specs.Carried.{Carried, CarriedFront, CarriedSome, CarriedLast, CarriedAll, at_end}
 
 module _ {b : List ℕ} {p : Progress} where
-  -- the replies are written, and none waits
-  pub replies_written : (t : List ℤ) (place : ℕ) → place ≡ 0 → Carried t b p [] t b (record { versions = p.versions; line = p.line; place = place })
+  -- the replies are written, and none waits, in this buffer or another
+  pub replies_written : (t : List ℤ) {b' : List ℕ} (place : ℕ) → take place b' ≡ []
+      → Carried t b p [] t b' (record { versions = p.versions; line = p.line; place = place })
   replies_written t place e = record {
-    stands = λ s w. rw (no_bytes s) (record { words = w.words; versions = w.versions; line = w.line; output = ap (λ n. take n b) e });
+    stands = λ s w. rw (no_bytes s) (record { words = w.words; versions = w.versions; line = w.line; output = e });
   }
 
   pub carried_none : (t : List ℤ) → p.place ≡ 0 → Carried t b p [] t b p
-  carried_none t = replies_written t p.place
+  carried_none t e = replies_written t p.place (ap (λ n. take n b) e)
 
   module _ {t t' t'' : List ℤ} {b' b'' : List ℕ} {p' p'' : Progress} where
     -- bytes are taken, and their replies written
@@ -45,8 +46,8 @@ part_over input front rest count e =
 
 -- ---- the last line was answered, and its reply written
 module _ {b : List ℕ} {p : Progress} where
-  pub last_carried : {t t' : List ℤ} {b' b'' : List ℕ} {last end : Progress} → ((s : LineSession) → StandsFor s t b p → StandsFor (finished s) t' b' last)
-      → Carried t' b' last [] t' b'' end → CarriedLast t b p true t'
+  pub last_carried : {t t' t'' : List ℤ} {b' b'' : List ℕ} {last end : Progress} → ((s : LineSession) → StandsFor s t b p → StandsFor (finished s) t' b' last)
+      → Carried t' b' last [] t'' b'' end → CarriedLast t b p true t''
   last_carried finish out = record { words = λ s w. rw (no_bytes (finished s)) at ((out.stands _ (finish s w)).words) }
 
   -- or a write failed before
