@@ -6,7 +6,7 @@ ghost use Rattle.steps_answers.specs.Answers.{Answered};
 
 use reader::VersionRecord;
 use steps_commands::Command;
-use steps_replies::{BadLine, write_line};
+use steps_replies::{BadLine, write_line_at};
 
 // A line answered; answers the place after the reply.
 pub fn answer(
@@ -19,8 +19,8 @@ pub fn answer(
     ensures { Answered table.old versions.old line.now buffer.old place result table.new versions.new buffer.new }
 {
     match steps_commands::read_command(line) {
-        Some(Command::Begin) => write_line(buffer, place, reader::begin(versions)),
-        Some(Command::Commit) => write_line(buffer, place, reader::commit(versions)),
+        Some(Command::Begin) => write_line_at(buffer, place, reader::begin(versions)),
+        Some(Command::Commit) => write_line_at(buffer, place, reader::commit(versions)),
         Some(
             Command::Put {
                 key1,
@@ -30,11 +30,11 @@ pub fn answer(
             },
         ) => {
             let placed = reader::put(table, *versions, key1, key2, total1, total2);
-            write_line(buffer, place, placed)
+            write_line_at(buffer, place, placed)
         }
         Some(Command::Delete { key1, key2 }) => {
             let placed = reader::delete(table, *versions, key1, key2);
-            write_line(buffer, place, placed)
+            write_line_at(buffer, place, placed)
         }
         Some(
             Command::Read {
@@ -44,8 +44,8 @@ pub fn answer(
             },
         ) => {
             let seen = reader::read_key(table, *versions, session, key1, key2);
-            write_line(buffer, place, seen)
+            write_line_at(buffer, place, seen)
         }
-        None => write_line(buffer, place, BadLine),
+        None => write_line_at(buffer, place, BadLine),
     }
 }

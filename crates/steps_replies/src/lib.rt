@@ -1,5 +1,5 @@
-// What the program `steps` answers to a line: each answer of the library as a line, written into a lent buffer from a place on. All
-// here are leaves for our other crates.
+// What the program `steps` answers to a line: each answer of the library as a line, written into a lent buffer from a place on, or
+// behind the lines of a text (`texts`). All here but `texts` are leaves for our other crates.
 #![tactic(auto)]
 
 ghost use Rattle.std.specs.Prelude.{◌≡◌, ℕ, ◌+◌, ◌*◌, ◌≤◌, List, leb, length};
@@ -7,9 +7,14 @@ ghost use Rattle.steps_replies.specs.Replies.{line_by, version_line, slot_line, 
 ghost use Rattle.steps_replies.specs.Written.{longest_line, Written};
 ghost use Rattle.steps_replies.specs.Puts.{Put};
 
+#[cfg(test)]
+mod tests;
+mod texts;
+
 use itoa::{Buffer, Integer};
 use reads::Row;
 use refusals::Refusal;
+pub use texts::{Reply, write_line};
 
 // The longest line that is answered: row, and two numbers of 20 bytes, a space before each, and a newline.
 pub const LONGEST_LINE: usize = 46;
@@ -20,8 +25,8 @@ pub const REPLY_BYTES: usize = 65536;
 // What ends a line.
 pub const NEWLINE: u8 = b'\n';
 
-// An answer that is a line.
-pub trait Reply: Copy {
+// An answer that is a line, which is put into a lent buffer.
+pub trait ReplyAt: Copy {
     ghost line: { Self → List ℕ };
 
     // The line, from a place on; there is room for the longest. Answers the place after it.
@@ -32,7 +37,7 @@ pub trait Reply: Copy {
 }
 
 // The number of a version, as begin and commit answer it.
-impl Reply for i64 {
+impl ReplyAt for i64 {
     ghost line = { version_line };
 
     fn put_to(self, buffer: &mut [u8], place: usize) -> usize {
@@ -41,7 +46,7 @@ impl Reply for i64 {
 }
 
 // The number of a slot, as a change answers it.
-impl Reply for usize {
+impl ReplyAt for usize {
     ghost line = { slot_line };
 
     fn put_to(self, buffer: &mut [u8], place: usize) -> usize {
@@ -50,7 +55,7 @@ impl Reply for usize {
 }
 
 // A row or none, as a read answers it.
-impl Reply for Option<Row> {
+impl ReplyAt for Option<Row> {
     ghost line = { row_line };
 
     fn put_to(self, buffer: &mut [u8], place: usize) -> usize {
@@ -62,7 +67,7 @@ impl Reply for Option<Row> {
 }
 
 // What the library answers, or its refusal.
-impl<A: Reply> Reply for Result<A, Refusal> {
+impl<A: ReplyAt> ReplyAt for Result<A, Refusal> {
     ghost line = { answer_line A.line };
 
     fn put_to(self, buffer: &mut [u8], place: usize) -> usize {
@@ -77,7 +82,7 @@ impl<A: Reply> Reply for Result<A, Refusal> {
 #[derive(Clone, Copy)]
 pub struct BadLine;
 
-impl Reply for BadLine {
+impl ReplyAt for BadLine {
     ghost line = { λ _. bad_line };
 
     fn put_to(self, buffer: &mut [u8], place: usize) -> usize {
@@ -119,7 +124,7 @@ pub fn has_room(length: usize, place: usize) -> bool
 
 // The line of an answer, from a place on, or nothing where the longest has no room. Answers the place after it, or the place itself.
 #[tactic(auto, unfolding(crate::specs::Written::buffer_after, crate::specs::Written::place_after))]
-pub fn write_line<A: Reply>(buffer: &mut [u8], place: usize, answer: A) -> usize
+pub fn write_line_at<A: ReplyAt>(buffer: &mut [u8], place: usize, answer: A) -> usize
     ensures { Written buffer.old place (A.line answer) result buffer.new }
 {
     if has_room(buffer.len(), place) {
